@@ -1,0 +1,55 @@
+-- What a call comes to, by the first of its checks that is not met; and checks behind others (`firstUnmet-stops`).
+use mathlib.Core.Path.{_∙_, _≡_, ap, refl}
+use mathlib.Core.Option.{Option, none, some}
+use mathlib.Core.List.{List, [], _++_, _∷_, append-assoc, Memᴰ·append-left as append-left, Memᴰ·append-right as append-right}
+use Prim.Native.Nat.{ℕ}
+use native.Mathlib.Omega.{arith}
+use Rattle.checks.specs.Checks.{Check, answered, buffersBy, checked, ended, firstUnmet, outcomeBy, refused}
+use Rattle.checks.proofs.Checks.{met-all, stops-iff}
+
+-- what stops a list of checks stops it with others behind
+pub firstUnmet-stops : (cs ds : List Check) (e : ℕ) → firstUnmet cs ≡ some e → firstUnmet (cs ++ ds) ≡ some e
+firstUnmet-stops cs ds e h =
+    let s = stops-iff cs e .0 h in
+    stops-iff (cs ++ ds) e .1 (record {
+      before = s .before;
+      stop = s .stop;
+      after = s .after ++ ds;
+      parts = ap (λ (l : List Check). l ++ ds) (s .parts) ∙ append-assoc (s .before) (s .stop ∷ s .after) ds;
+      before-met = s .before-met;
+      unmet = s .unmet;
+      numbered = s .numbered;
+    })
+
+-- checks that are met with others behind are met, and so are those
+pub unmet-parts : (cs ds : List Check) → firstUnmet (cs ++ ds) ≡ none → (firstUnmet cs ≡ none) × (firstUnmet ds ≡ none)
+unmet-parts cs ds h =
+    let each = met-all (cs ++ ds) .0 h in
+    (met-all cs .1 (λ c m. each c (append-left ds m)), met-all ds .1 (λ c m. each c (append-right cs m)))
+
+module _ {A : Type 0} (cs : List Check) (a : A) where
+  pub checked-met : firstUnmet cs ≡ none → checked cs a ≡ answered a
+  unfolding checked
+  checked-met h = ap (λ (o : Option ℕ). outcomeBy o a) h
+
+  pub checked-unmet : (e : ℕ) → firstUnmet cs ≡ some e → checked cs a ≡ refused e
+  unfolding checked
+  checked-unmet e h = ap (λ (o : Option ℕ). outcomeBy o a) h
+
+module _ {A B : Type 0} (cs : List Check) (a : A) (before after : B) where
+  pub ended-met : firstUnmet cs ≡ none → ended cs a before after ≡ record { outcome = answered a; buffers = after }
+  unfolding ended checked
+  ended-met h = ap (λ (o : Option ℕ). record { outcome = outcomeBy o a; buffers = buffersBy o before after }) h
+
+  pub ended-unmet : (e : ℕ) → firstUnmet cs ≡ some e → ended cs a before after ≡ record { outcome = refused e; buffers = before }
+  unfolding ended checked
+  ended-unmet e h = ap (λ (o : Option ℕ). record { outcome = outcomeBy o a; buffers = buffersBy o before after }) h
+
+  -- a call that answers has met all its checks
+  pub ended-answered : (x : A) → ended cs a before after .outcome ≡ answered x → (firstUnmet cs ≡ none) × (a ≡ x)
+  unfolding ended checked
+  ended-answered x = by (firstUnmet cs)
+    where
+      by : (o : Option ℕ) → outcomeBy o a ≡ answered x → (o ≡ none) × (a ≡ x)
+      by none h = (refl, cc)
+      by (some e) h = let z : _≡_ {A = ℕ} 0 1 = cc in absurd (omega arith)

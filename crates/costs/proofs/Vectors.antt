@@ -1,0 +1,167 @@
+-- The order of vectors, `vectorLess`, is a strict total order (`vector-order`), and equality of vectors is decided (`vector-eq?`).
+-- Dominance is a strict partial order on vectors of one length (`dominates-irrefl`, `dominates-trans`), what dominates is less
+-- (`dominates-less`), and `noneLarger` tests in one walk whether a vector equals or dominates another (`noneLarger-cases`, `noneLarger-is`).
+use mathlib.Core.Path.{_≡_, ap₂, refl, subst, sym}
+use mathlib.Core.Logic.{_⊎_, inl, inr, ⊎-elim}
+use mathlib.Core.Bool.{Bool}
+use mathlib.Core.List.{List, [], _∷_}
+use Prim.Native.Nat.{_<_, _≤_, ℕ}
+use native.Mathlib.Omega.{arith}
+use lib.Dec.{T, eqb, eqb→eq, leb, leb→le, le→leb, ltb, ltb→lt, lt→ltb}
+use lib.ListN.{length}
+use Rattle.lists.specs.Lists.{both, either, same}
+use Rattle.lists.proofs.Members.{same-of, same-out}
+use Rattle.lists.proofs.Orders.{Everywhere, StrictTotal, compared, is-equal, is-greater, is-less, less-ne}
+use Rattle.lists.proofs.Tests.{T-both, T-either, T-same, decide, eq→eqb, not-ltb→le}
+use Rattle.costs.specs.Costs.{dominates, noneLarger, someSmaller, vectorLess}
+
+-- one step of `vectorLess`
+lex-out : (x y : ℕ) (b : Bool) → T (either (ltb x y) (both (eqb x y) b)) → (x < y) ⊎ ((x ≡ y) × T b)
+lex-out x y b t =
+    ⊎-elim (λ h. inl (ltb→lt x y h)) (λ h. let (e, s) = T-both (eqb x y) b .0 h in inr (eqb→eq x y e, s)) (T-either (ltb x y) (both (eqb x y) b) .0 t)
+
+lex-smaller : (x y : ℕ) (b : Bool) → x < y → T (either (ltb x y) (both (eqb x y) b))
+lex-smaller x y b h = T-either (ltb x y) (both (eqb x y) b) .1 (inl (lt→ltb x y h))
+
+lex-equal : (x y : ℕ) (b : Bool) → x ≡ y → T b → T (either (ltb x y) (both (eqb x y) b))
+lex-equal x y b e t = T-either (ltb x y) (both (eqb x y) b) .1 (inr (T-both (eqb x y) b .1 (eq→eqb x y e, t)))
+
+vector-irrefl : (v : List ℕ) → ¬ T (vectorLess v v)
+unfolding vectorLess
+vector-irrefl [] t = t
+vector-irrefl (x ∷ v) t =
+    ⊎-elim (λ (h : x < x). omega arith) (λ (h : (x ≡ x) × T (vectorLess v v)). vector-irrefl v (h .1)) (lex-out x x (vectorLess v v) t)
+
+vector-trans : (u v w : List ℕ) → T (vectorLess u v) → T (vectorLess v w) → T (vectorLess u w)
+unfolding vectorLess
+vector-trans [] [] w p q = absurd p
+vector-trans [] (y ∷ v) [] p q = absurd q
+vector-trans [] (y ∷ v) (z ∷ w) p q = tt
+vector-trans (x ∷ u) [] w p q = absurd p
+vector-trans (x ∷ u) (y ∷ v) [] p q = absurd q
+vector-trans (x ∷ u) (y ∷ v) (z ∷ w) p q = step (vector-trans u v w) (lex-out x y (vectorLess u v) p) (lex-out y z (vectorLess v w) q)
+  where
+    step : (T (vectorLess u v) → T (vectorLess v w) → T (vectorLess u w))
+        → (x < y) ⊎ ((x ≡ y) × T (vectorLess u v)) → (y < z) ⊎ ((y ≡ z) × T (vectorLess v w)) → T (vectorLess (x ∷ u) (z ∷ w))
+    step below (inl h) (inl k) = lex-smaller x z (vectorLess u w) (omega arith)
+    step below (inl h) (inr k) = lex-smaller x z (vectorLess u w) (omega arith)
+    step below (inr h) (inl k) = lex-smaller x z (vectorLess u w) (omega arith)
+    step below (inr h) (inr k) = lex-equal x z (vectorLess u w) (omega arith) (below (h .1) (k .1))
+
+vector-total : (v w : List ℕ) → ¬ T (vectorLess v w) → ¬ T (vectorLess w v) → v ≡ w
+unfolding vectorLess
+vector-total [] [] n n′ = refl
+vector-total [] (y ∷ w) n n′ = absurd (n tt)
+vector-total (x ∷ v) [] n n′ = absurd (n′ tt)
+vector-total (x ∷ v) (y ∷ w) n n′ =
+    ap₂ _∷_ heads (vector-total v w (λ t. n (lex-equal x y (vectorLess v w) heads t)) (λ t. n′ (lex-equal y x (vectorLess w v) (sym heads) t)))
+  where
+    equal : ¬ (x < y) → ¬ (y < x) → x ≡ y
+    equal h k = omega arith
+
+    heads : x ≡ y
+    heads = equal (λ h. n (lex-smaller x y (vectorLess v w) h)) (λ h. n′ (lex-smaller y x (vectorLess w v) h))
+
+-- `vectorLess` is a strict total order.
+pub vector-order : StrictTotal Everywhere vectorLess
+vector-order = record { irrefl = vector-irrefl; trans = vector-trans; total = λ v w _ _. vector-total v w }
+
+pub vector-eq? : (v w : List ℕ) → Dec (v ≡ w)
+vector-eq? v w =
+    elim (compared vector-order v w tt tt)
+    [ is-less h ↦ no (less-ne vector-order h) | is-equal e ↦ yes e | is-greater h ↦ no (λ e. less-ne vector-order h (sym e)) ]
+
+-- `noneLarger` is a partial order on vectors of one length.
+pub noneLarger-refl : (v : List ℕ) → T (noneLarger v v)
+unfolding noneLarger
+noneLarger-refl [] = tt
+noneLarger-refl (x ∷ v) = T-both (leb x x) (noneLarger v v) .1 (le→leb x x (omega arith), noneLarger-refl v)
+
+-- the head and the tail of `noneLarger`
+noneLarger-head : (x y : ℕ) (b : Bool) → T (both (leb x y) b) → x ≤ y
+noneLarger-head x y b t = leb→le x y (T-both (leb x y) b .0 t .0)
+
+pub noneLarger-trans : (u v w : List ℕ) → length u ≡ length v → T (noneLarger u v) → T (noneLarger v w) → T (noneLarger u w)
+unfolding noneLarger
+noneLarger-trans [] [] w e p q = q
+noneLarger-trans [] (y ∷ v) w e p q = absurd p
+noneLarger-trans (x ∷ u) [] w e p q = absurd p
+noneLarger-trans (x ∷ u) (y ∷ v) [] e p q = absurd q
+noneLarger-trans (x ∷ u) (y ∷ v) (z ∷ w) e p q =
+    T-both (leb x z) (noneLarger u w) .1 (
+      le→leb x z (omega (arith, noneLarger-head x y (noneLarger u v) p, noneLarger-head y z (noneLarger v w) q)),
+      noneLarger-trans u v w (omega arith) (T-both (leb x y) (noneLarger u v) .0 p .1) (T-both (leb y z) (noneLarger v w) .0 q .1),
+    )
+
+-- not larger, then smaller somewhere: smaller somewhere
+noneLarger-someSmaller : (u v w : List ℕ) → length u ≡ length v → T (noneLarger u v) → T (someSmaller v w) → T (someSmaller u w)
+unfolding noneLarger someSmaller
+noneLarger-someSmaller [] [] w e p q = absurd q
+noneLarger-someSmaller [] (y ∷ v) w e p q = absurd (omega arith)
+noneLarger-someSmaller (x ∷ u) [] w e p q = absurd q
+noneLarger-someSmaller (x ∷ u) (y ∷ v) [] e p q = absurd q
+noneLarger-someSmaller (x ∷ u) (y ∷ v) (z ∷ w) e p q = ⊎-elim
+    (λ (h : T (ltb y z)). T-either (ltb x z) (someSmaller u w) .1 (inl (lt→ltb x z (omega (arith, noneLarger-head x y (noneLarger u v) p, ltb→lt y z h)))))
+    (λ (h : T (someSmaller v w)). T-either (ltb x z) (someSmaller u w) .1 (inr (noneLarger-someSmaller u v w (omega arith) (T-both (leb x y) (noneLarger u v) .0 p .1) h)))
+    (T-either (ltb y z) (someSmaller v w) .0 q)
+
+someSmaller-irrefl : (v : List ℕ) → ¬ T (someSmaller v v)
+unfolding someSmaller
+someSmaller-irrefl [] t = t
+someSmaller-irrefl (x ∷ v) t =
+    ⊎-elim (λ (h : T (ltb x x)). omega (arith, ltb→lt x x h)) (someSmaller-irrefl v) (T-either (ltb x x) (someSmaller v v) .0 t)
+
+-- `dominates` is a strict partial order on vectors of one length.
+pub dominates-noneLarger : (v w : List ℕ) → T (dominates v w) → T (noneLarger v w)
+dominates-noneLarger v w t = T-both (noneLarger v w) (someSmaller v w) .0 t .0
+
+pub dominates-someSmaller : (v w : List ℕ) → T (dominates v w) → T (someSmaller v w)
+dominates-someSmaller v w t = T-both (noneLarger v w) (someSmaller v w) .0 t .1
+
+pub dominates-irrefl : (v : List ℕ) → ¬ T (dominates v v)
+dominates-irrefl v t = someSmaller-irrefl v (dominates-someSmaller v v t)
+
+pub dominates-trans : (u v w : List ℕ) → length u ≡ length v → T (dominates u v) → T (dominates v w) → T (dominates u w)
+dominates-trans u v w e p q =
+    T-both (noneLarger u w) (someSmaller u w) .1 (
+      noneLarger-trans u v w e (dominates-noneLarger u v p) (dominates-noneLarger v w q),
+      noneLarger-someSmaller u v w e (dominates-noneLarger u v p) (dominates-someSmaller v w q),
+    )
+
+smaller-vectorLess : (v w : List ℕ) → T (noneLarger v w) → T (someSmaller v w) → T (vectorLess v w)
+unfolding noneLarger someSmaller vectorLess
+smaller-vectorLess [] w p q = absurd q
+smaller-vectorLess (x ∷ v) [] p q = absurd q
+smaller-vectorLess (x ∷ v) (y ∷ w) p q = ⊎-elim
+    (λ (h : T (ltb x y)). T-either (ltb x y) (both (eqb x y) (vectorLess v w)) .1 (inl h))
+    (λ (h : ¬ T (ltb x y)). lex-equal x y (vectorLess v w) (omega (arith, noneLarger-head x y (noneLarger v w) p, not-ltb→le x y h))
+    (smaller-vectorLess v w (T-both (leb x y) (noneLarger v w) .0 p .1)
+    (⊎-elim (λ (k : T (ltb x y)). absurd (h k)) (λ (k : T (someSmaller v w)). k) (T-either (ltb x y) (someSmaller v w) .0 q))))
+    (decide (ltb x y))
+
+-- What dominates a vector is less than it, whatever their lengths.
+pub dominates-less : (v w : List ℕ) → T (dominates v w) → T (vectorLess v w)
+dominates-less v w t = smaller-vectorLess v w (dominates-noneLarger v w t) (dominates-someSmaller v w t)
+
+noneLarger-equal : (v w : List ℕ) → length v ≡ length w → T (noneLarger v w) → (¬ T (someSmaller v w)) → v ≡ w
+unfolding noneLarger someSmaller
+noneLarger-equal [] [] e p q = refl
+noneLarger-equal [] (y ∷ w) e p q = absurd (omega arith)
+noneLarger-equal (x ∷ v) [] e p q = absurd (omega arith)
+noneLarger-equal (x ∷ v) (y ∷ w) e p q = ap₂ (λ (a : ℕ) (l : List ℕ). a ∷ l)
+    (omega (arith, noneLarger-head x y (noneLarger v w) p, not-ltb→le x y (λ (h : T (ltb x y)). q (T-either (ltb x y) (someSmaller v w) .1 (inl h)))))
+    (noneLarger-equal v w (omega arith) (T-both (leb x y) (noneLarger v w) .0 p .1) (λ (h : T (someSmaller v w)). q (T-either (ltb x y) (someSmaller v w) .1 (inr h))))
+
+-- Not larger is: equal, or dominates.
+pub noneLarger-cases : (v w : List ℕ) → length v ≡ length w → T (noneLarger v w) → (v ≡ w) ⊎ T (dominates v w)
+noneLarger-cases v w e p =
+    ⊎-elim (λ (h : T (someSmaller v w)). inr (T-both (noneLarger v w) (someSmaller v w) .1 (p, h)))
+    (λ (h : ¬ T (someSmaller v w)). inl (noneLarger-equal v w e p h)) (decide (someSmaller v w))
+
+-- So `noneLarger` tests in one walk whether a vector equals or dominates another.
+pub noneLarger-is : (v w : List ℕ) → length v ≡ length w → noneLarger v w ≡ either (same v w) (dominates v w)
+noneLarger-is v w e = T-same (noneLarger v w) (either (same v w) (dominates v w))
+    (λ t. ⊎-elim (λ (q : v ≡ w). T-either (same v w) (dominates v w) .1 (inl (same-of v w q)))
+    (λ (d : T (dominates v w)). T-either (same v w) (dominates v w) .1 (inr d)) (noneLarger-cases v w e t))
+    (λ t. ⊎-elim (λ (q : T (same v w)). subst (λ (u : List ℕ). T (noneLarger v u)) (same-out v w q) (noneLarger-refl v))
+    (dominates-noneLarger v w) (T-either (same v w) (dominates v w) .0 t))

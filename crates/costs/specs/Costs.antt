@@ -1,0 +1,90 @@
+-- Costs of a tree, dominance and the front (document 01).
+use mathlib.Core.Bool.{Bool, _&&_, _||_, cond, false, not, true}
+use mathlib.Core.List.{List, [], _∷_, map}
+use Prim.Native.Nat.{_+_, suc, ℕ}
+use lib.Dec.{eqb, leb, ltb}
+use lib.ListN.{getD}
+use Rattle.lists.specs.Lists.{any, filterB, largest, member, same, sort, sum}
+use Rattle.graph.specs.Paths.{trees}
+use Rattle.costs.specs.Network.{Kind, Network, added, closing, graphOf, rowAt, worst}
+
+-- cost of row r in criterion c
+abbrev pub costAt : Network → ℕ → ℕ → ℕ
+costAt g c r = getD (rowAt g r .costs) c 0
+
+abbrev pub inStreet : Network → ℕ → List ℕ → List ℕ
+inStreet g s rs = filterB (λ r. eqb (rowAt g r .street) s) rs
+
+-- each named street of the rows, once
+unfoldable pub streetsOf : Network → List ℕ → List ℕ
+streetsOf g [] = []
+streetsOf g (r ∷ rs) =
+    let s = rowAt g r .street in
+    let rest = streetsOf g rs in
+    cond (eqb s 0 || member s rest) rest (s ∷ rest)
+
+-- what one named street costs: the days of its rows are added
+abbrev pub streetCost : Network → ℕ → List ℕ → ℕ → ℕ
+streetCost g c rs s = sum (map (costAt g c) (inStreet g s rs))
+
+-- Added: the sum over the rows.
+abbrev pub addedCost : Network → ℕ → List ℕ → ℕ
+addedCost g c rs = sum (map (costAt g c) rs)
+
+-- Worst: the largest cost among the rows.
+abbrev pub worstCost : Network → ℕ → List ℕ → ℕ
+worstCost g c rs = largest (map (costAt g c) rs)
+
+-- Closing: the named streets, street by street, and the days of the rows of street 0.
+abbrev pub closingCost : Network → ℕ → List ℕ → ℕ
+closingCost g c rs = sum (map (streetCost g c rs) (streetsOf g rs)) + sum (map (costAt g c) (inStreet g 0 rs))
+
+-- the cost in criterion c, by its kind
+abbrev pub costBy : Kind → Network → ℕ → List ℕ → ℕ
+costBy added = addedCost
+costBy worst = worstCost
+costBy closing = closingCost
+
+unfoldable pub costsFrom : Network → ℕ → List Kind → List ℕ → List ℕ
+costsFrom g c [] rs = []
+costsFrom g c (kind ∷ kinds) rs = costBy kind g c rs ∷ costsFrom g (suc c) kinds rs
+
+-- the cost vector of a tree
+unfoldable pub costOf : Network → List ℕ → List ℕ
+unfolding costsFrom
+costOf g rs = costsFrom g 0 (g .kinds) rs
+
+unfoldable pub noneLarger : List ℕ → List ℕ → Bool
+noneLarger [] [] = true
+noneLarger [] (y ∷ w) = false
+noneLarger (x ∷ v) [] = false
+noneLarger (x ∷ v) (y ∷ w) = leb x y && noneLarger v w
+
+unfoldable pub someSmaller : List ℕ → List ℕ → Bool
+someSmaller [] w = false
+someSmaller (x ∷ v) [] = false
+someSmaller (x ∷ v) (y ∷ w) = ltb x y || someSmaller v w
+
+abbrev pub dominates : List ℕ → List ℕ → Bool
+dominates v w = noneLarger v w && someSmaller v w
+
+-- ascending by the first component that differs
+unfoldable pub vectorLess : List ℕ → List ℕ → Bool
+vectorLess [] [] = false
+vectorLess [] (y ∷ w) = true
+vectorLess (x ∷ v) [] = false
+vectorLess (x ∷ v) (y ∷ w) = ltb x y || (eqb x y && vectorLess v w)
+
+-- each vector once
+unfoldable pub once : List (List ℕ) → List (List ℕ)
+once [] = []
+once (v ∷ vs) = let rest = once vs in cond (any (same v) rest) rest (v ∷ rest)
+
+abbrev pub vectors : Network → List (List ℕ)
+vectors g = map (costOf g) (trees (graphOf g))
+
+unfoldable pub frontOf : List (List ℕ) → List (List ℕ)
+frontOf vs = sort vectorLess (once (filterB (λ v. not (any (λ w. dominates w v) vs)) vs))
+
+abbrev pub front : Network → List (List ℕ)
+front g = frontOf (vectors g)

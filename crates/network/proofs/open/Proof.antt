@@ -1,0 +1,173 @@
+-- Open is one check after the other: once the first k are met, it comes to what the checks behind them come to (`passed1` to `passed6`).
+use mathlib.Core.Path.{_∙_, _≡_, refl, sym}
+use mathlib.Core.List.{List}
+use Prim.Native.Nat.{ℕ}
+use borrow.Author.Needs.{needs}
+use Rattle.network_file.specs.File.{fileChecks, openOf}
+use Rattle.network.proofs.Laws.{open-next, open-start, open-stop, openFrom}
+use Rattle.network.proofs.open.Statement.{statement}
+use Rattle.network.proofs.open.Tie as tie
+
+check-version-requires : tie.Need-check-version-requires
+check-version-requires c κs = search needs
+
+enum-told : tie.Need-enum-told
+enum-told c = search needs
+
+enum-told-2 : tie.Need-enum-told-2
+enum-told-2 c = search needs
+
+-- check 1 is met
+abbrev file1 : tie.After-enum-told → List ℕ
+file1 c = c .before .before .before .before .args .file .now
+
+passed1 : (c : tie.After-enum-told) → openOf (file1 c) ≡ openFrom 1 (file1 c)
+unfolding fileChecks
+passed1 c = open-start _ ∙ open-next _ 0 refl (c .enum-told .given .1) (search needs)
+
+returns : tie.Need-returns
+unfolding fileChecks
+returns c = open-stop _ 0 refl (c .enum-told2 .given .1) (search needs) ∙ sym (open-start _)
+
+check-length-requires : tie.Need-check-length-requires
+check-length-requires c κs = search needs
+
+enum-told-3 : tie.Need-enum-told-3
+enum-told-3 c = search needs
+
+enum-told-4 : tie.Need-enum-told-4
+enum-told-4 c = search needs
+
+-- check 2 is met
+abbrev file2 : tie.After-enum-told3 → List ℕ
+file2 c = file1 (c .before .before .before)
+
+passed2 : (c : tie.After-enum-told3) → openOf (file2 c) ≡ openFrom 2 (file2 c)
+unfolding fileChecks
+passed2 c = passed1 (c .before .before .before) ∙ open-next _ 1 refl (c .enum-told3 .given .1) (search needs)
+
+returns-2 : tie.Need-returns-2
+unfolding fileChecks
+returns-2 c = open-stop _ 1 refl (c .enum-told4 .given .1) (search needs) ∙ sym (passed1 (c .before .before .before))
+
+check-sizes-requires : tie.Need-check-sizes-requires
+check-sizes-requires c κs = search needs
+
+enum-told-5 : tie.Need-enum-told-5
+enum-told-5 c = search needs
+
+enum-told-6 : tie.Need-enum-told-6
+enum-told-6 c = search needs
+
+-- check 3 is met
+abbrev file3 : tie.After-enum-told5 → List ℕ
+file3 c = file2 (c .before .before .before)
+
+passed3 : (c : tie.After-enum-told5) → openOf (file3 c) ≡ openFrom 3 (file3 c)
+unfolding fileChecks
+passed3 c = passed2 (c .before .before .before) ∙ open-next _ 2 refl (c .enum-told5 .given .1) (search needs)
+
+returns-3 : tie.Need-returns-3
+unfolding fileChecks
+returns-3 c = open-stop _ 2 refl (c .enum-told6 .given .1) (search needs) ∙ sym (passed2 (c .before .before .before))
+
+check-body-requires : tie.Need-check-body-requires
+check-body-requires c κs = search needs
+
+enum-told-7 : tie.Need-enum-told-7
+enum-told-7 c = search needs
+
+enum-told-8 : tie.Need-enum-told-8
+enum-told-8 c = search needs
+
+-- check 4 is met
+abbrev file4 : tie.After-enum-told7 → List ℕ
+file4 c = file3 (c .before .before .before)
+
+passed4 : (c : tie.After-enum-told7) → openOf (file4 c) ≡ openFrom 4 (file4 c)
+unfolding fileChecks
+passed4 c = passed3 (c .before .before .before) ∙ open-next _ 3 refl (c .enum-told7 .given .1) (search needs)
+
+returns-4 : tie.Need-returns-4
+unfolding fileChecks
+returns-4 c = open-stop _ 3 refl (c .enum-told8 .given .1) (search needs) ∙ sym (passed3 (c .before .before .before))
+
+check-kinds-requires : tie.Need-check-kinds-requires
+check-kinds-requires c κs = search needs
+
+enum-told-9 : tie.Need-enum-told-9
+enum-told-9 c = search needs
+
+enum-told-10 : tie.Need-enum-told-10
+enum-told-10 c = search needs
+
+-- check 5 is met
+abbrev file5 : tie.After-enum-told9 → List ℕ
+file5 c = file4 (c .before .before .before)
+
+passed5 : (c : tie.After-enum-told9) → openOf (file5 c) ≡ openFrom 5 (file5 c)
+unfolding fileChecks
+passed5 c = passed4 (c .before .before .before) ∙ open-next _ 4 refl (c .enum-told9 .given .1) (search needs)
+
+returns-5 : tie.Need-returns-5
+unfolding fileChecks
+returns-5 c = open-stop _ 4 refl (c .enum-told10 .given .1) (search needs) ∙ sym (passed4 (c .before .before .before))
+
+check-ends-requires : tie.Need-check-ends-requires
+check-ends-requires c κs = search needs
+
+enum-told-11 : tie.Need-enum-told-11
+enum-told-11 c = search needs
+
+enum-told-12 : tie.Need-enum-told-12
+enum-told-12 c = search needs
+
+-- check 6 is met
+abbrev file6 : tie.After-enum-told11 → List ℕ
+file6 c = file5 (c .before .before .before)
+
+passed6 : (c : tie.After-enum-told11) → openOf (file6 c) ≡ openFrom 6 (file6 c)
+unfolding fileChecks
+passed6 c = passed5 (c .before .before .before) ∙ open-next _ 5 refl (c .enum-told11 .given .1) (search needs)
+
+returns-6 : tie.Need-returns-6
+unfolding fileChecks
+returns-6 c = open-stop _ 5 refl (c .enum-told12 .given .1) (search needs) ∙ sym (passed5 (c .before .before .before))
+
+check-costs-requires : tie.Need-check-costs-requires
+check-costs-requires c κs = search needs
+
+returns-7 : tie.Need-returns-7
+unfolding fileChecks openFrom
+returns-7 c = c .check-costs .ensures ∙ sym (passed6 (c .before))
+
+pub open-spec : {M : Type 1} → statement M
+open-spec =
+    tie.close
+    (tie.spec
+    check-version-requires
+    enum-told
+    enum-told-2
+    returns
+    check-length-requires
+    enum-told-3
+    enum-told-4
+    returns-2
+    check-sizes-requires
+    enum-told-5
+    enum-told-6
+    returns-3
+    check-body-requires
+    enum-told-7
+    enum-told-8
+    returns-4
+    check-kinds-requires
+    enum-told-9
+    enum-told-10
+    returns-5
+    check-ends-requires
+    enum-told-11
+    enum-told-12
+    returns-6
+    check-costs-requires
+    returns-7)

@@ -1,0 +1,25 @@
+-- The graph of an accepted file: it is well formed (`formed`), and has as many nodes as the file says (`node-count`).
+use mathlib.Core.Path.{_≡_}
+use mathlib.Core.List.{List}
+use Prim.Native.Nat.{_<_, ℕ}
+use native.Mathlib.Omega.{arith}
+use lib.ListN.{length}
+use Rattle.lists.proofs.Ranges.{range-length}
+use Rattle.graph.proofs.Minimal.{WellFormed}
+use Rattle.costs.proofs.Networks.{network-formed}
+use Rattle.network_file.specs.File.{networkOf, sizesOf}
+use Rattle.network_file.proofs.Accepted.{Accepted}
+use Rattle.operations.specs.Operations.{graphIn}
+
+pub node-count : (f : List ℕ) → length (graphIn f .nodes) ≡ sizesOf f .n
+unfolding networkOf
+node-count f = range-length 1 (sizesOf f .n)
+
+module _ (f : List ℕ) (a : Accepted f) where
+  pub formed : WellFormed (graphIn f)
+  unfolding networkOf
+  formed = network-formed (networkOf f) (omega (arith, a .nodes-low))
+
+  -- there is a node besides the plant
+  pub several : 1 < length (graphIn f .nodes)
+  several = omega (arith, node-count f, a .nodes-low)

@@ -1,0 +1,140 @@
+-- What document 01 says in passing: the greatest cost is 31,000,000 (`greatest-cost`), a spanning tree has no cycle (`no-cycle`), and
+-- count 0 comes only where the start is the list's last tree (`count-zero`). The longest file is `longest` of crate network_file.
+use mathlib.Core.Path.{_∙_, _≡_, ap, refl, subst, sym}
+use mathlib.Core.Bool.{true}
+use mathlib.Core.Option.{Option·none-ne-some, Option·some-injective, none, some}
+use mathlib.Core.List.{List, [], _∷_, map, List·Memᴰ·cases-cons as mem-cases, List·Memᴰ·head as here, List·Memᴰ·not-nil as mem-nil, List·Memᴰ·tail as there, Memᴰ·of-map as map-out}
+use mathlib.Core.Logic.{⊎-elim}
+use Prim.Native.Nat.{_*_, _/_, _<_, _≤_, pred, suc, zero, ℕ}
+use native.Mathlib.Nat.{le-div-iff-mul-le}
+use native.Mathlib.Omega.{arith}
+use lib.Dec.{T, leb}
+use lib.ListN.{drop, getElem?, length, length-map}
+use borrow.Author.Tests.{leb-true}
+use Rattle.lists.specs.Lists.{largest, sum}
+use Rattle.lists.proofs.Ascending.{mem-at}
+use Rattle.lists.proofs.Distinct.{Distinct}
+use Rattle.lists.proofs.Members.{_∈_}
+use Rattle.lists.proofs.Tests.{T-true}
+use Rattle.graph.specs.Graph.{Graph, isTree, width}
+use Rattle.graph.specs.Paths.{isMinimal, trees}
+use Rattle.graph.proofs.Minimal.{WellFormed}
+use Rattle.graph.proofs.Tree.{tree-out}
+use Rattle.graph.proofs.Trees.{trees-distinct, trees-minimal}
+use Rattle.checks.specs.Checks.{Check, answered, firstUnmet}
+use Rattle.checks.proofs.Checks.{met-all}
+use Rattle.checks.proofs.Ended.{ended-answered, unmet-parts}
+use Rattle.costs.specs.Costs.{addedCost, costAt, costBy, costOf, costsFrom}
+use Rattle.costs.specs.Network.{Kind, added, closing, worst}
+use Rattle.forests.proofs.Forest.{Forest}
+use Rattle.forests.proofs.Spanning.{tree-forest}
+use Rattle.bounds.proofs.Closing.{closing-added}
+use Rattle.network_file.specs.File.{fileChecks, networkOf}
+use Rattle.network_file.proofs.Accepted.{Accepted, accepted}
+use Rattle.pages.specs.Pages.{behind, lastOf, pageCount, restAfter}
+use Rattle.pages.proofs.Pages.{behind-drop}
+use Rattle.operations.specs.Operations.{Paged, check, drawnChecks, graphIn, pageCall, pageChecks, someTree, startChecks}
+use Rattle.operations.proofs.Files.{formed, node-count, several}
+
+-- A spanning tree has no cycle: its rows are a forest.
+pub no-cycle : (f : List ℕ) → Accepted f → (rows : List ℕ) → T (isTree (graphIn f) rows) → Forest (graphIn f) rows
+no-cycle f a = tree-forest (graphIn f) (formed f a)
+
+-- The greatest cost
+
+sum-most : (b : ℕ) (l : List ℕ) → ((x : ℕ) → x ∈ l → x ≤ b) → sum l ≤ length l * b
+unfolding sum
+sum-most b [] h = omega arith
+sum-most b (x ∷ l) h = omega (arith, h x (here refl), sum-most b l (λ y m. h y (there m)))
+
+largest-most : (b : ℕ) (l : List ℕ) → ((x : ℕ) → x ∈ l → x ≤ b) → largest l ≤ b
+unfolding largest
+largest-most b [] h = omega arith
+largest-most b (x ∷ l) h = omega (arith, h x (here refl), largest-most b l (λ y m. h y (there m)))
+
+module _ (f : List ℕ) (a : Accepted f) where
+  cost-most : (c : ℕ) (rows : List ℕ) (x : ℕ) → x ∈ map (costAt (networkOf f) c) rows → x ≤ 1000000
+  cost-most c rows x m = let (r, _, e) = map-out (costAt (networkOf f) c) rows m in subst (λ (y : ℕ). y ≤ 1000000) e (a .costs c r)
+
+  added-most : (c : ℕ) (rows : List ℕ) → length rows ≤ 31 → addedCost (networkOf f) c rows ≤ 31000000
+  added-most c rows h =
+      omega (arith, sum-most 1000000 (map (costAt (networkOf f) c) rows) (cost-most c rows), length-map rows (costAt (networkOf f) c))
+
+  by-kind : (kind : Kind) (c : ℕ) (rows : List ℕ) → length rows ≤ 31 → costBy kind (networkOf f) c rows ≤ 31000000
+  by-kind added c rows h = added-most c rows h
+  by-kind worst c rows h = omega (arith, largest-most 1000000 (map (costAt (networkOf f) c) rows) (cost-most c rows))
+  by-kind closing c rows h = rw (closing-added (networkOf f) c rows) (added-most c rows h)
+
+  from-kinds : (c : ℕ) (kinds : List Kind) (rows : List ℕ) → length rows ≤ 31 → (x : ℕ) → x ∈ costsFrom (networkOf f) c kinds rows → x ≤ 31000000
+  unfolding costsFrom
+  from-kinds c [] rows h x m = absurd (mem-nil m)
+  from-kinds c (kind ∷ kinds) rows h x m = ⊎-elim
+      (λ (e : x ≡ costBy kind (networkOf f) c rows). rw e (by-kind kind c rows h))
+      (λ i. from-kinds (suc c) kinds rows h x i)
+      (mem-cases m)
+
+  -- The greatest cost of a spanning tree, in any criterion.
+  pub greatest-cost : (rows : List ℕ) → T (isTree (graphIn f) rows) → (x : ℕ) → x ∈ costOf (networkOf f) rows → x ≤ 31000000
+  unfolding costOf
+  greatest-cost rows t x m =
+      from-kinds 0 (networkOf f .kinds) rows (omega (arith, tree-out (graphIn f) rows t .size, node-count f, a .nodes-high)) x m
+
+-- Count 0
+
+-- what stands at a place behind which there is nothing is the last
+last-at : (L : List (List ℕ)) (i : ℕ) (p : List ℕ) → getElem? L i ≡ some p → drop (suc i) L ≡ [] → lastOf L ≡ p
+last-at [] i p e h = absurd (Option·none-ne-some _ e)
+last-at (q ∷ []) zero p e h = Option·some-injective _ _ e
+last-at (q ∷ []) (suc i) p e h = absurd (Option·none-ne-some _ e)
+last-at (q ∷ r ∷ L) zero p e h = let z : _≡_ {A = ℕ} 0 1 = cc in absurd (omega arith)
+last-at (q ∷ r ∷ L) (suc i) p e h = last-at (r ∷ L) i p e h
+
+none-behind : (L : List (List ℕ)) (p : List ℕ) → Distinct L → p ∈ L → behind p L ≡ [] → lastOf L ≡ p
+none-behind L p once m h = let (i, e) = mem-at m in last-at L i p e (sym (behind-drop L i p once e) ∙ h)
+
+-- a page with room for a tree takes none only if none is left
+none-left : (w : ℕ) (page : List ℕ) (rest : List (List ℕ)) → 0 < w → w ≤ length page → pageCount w page rest ≡ 0 → rest ≡ []
+none-left w page [] wide room z = refl
+none-left w page (p ∷ rest) wide room z =
+    let one : 1 ≤ length page / w = le-div-iff-mul-le {k = w} {x = 1} {y = length page} wide .1 (omega arith) in absurd (omega arith)
+
+-- the start of a call that is met is empty or a tree of the list
+start-listed : (g : Graph) → WellFormed g → (r : ℕ) (rs : List ℕ) → firstUnmet (startChecks g (r ∷ rs)) ≡ none → (r ∷ rs) ∈ trees g
+unfolding startChecks drawnChecks
+start-listed g wf r rs h =
+    trees-minimal g wf (r ∷ rs) .1
+    (T-true _ .1 (met-all (startChecks g (r ∷ rs)) .0 h (check 13 (isMinimal g (r ∷ rs))) (there (there (there (here refl))))))
+
+module _ (f page : List ℕ) where
+  abbrev g : Graph
+  g = graphIn f
+
+  abbrev behindFile : List ℕ → List Check
+  behindFile start = check 12 (someTree (trees g)) ∷ check 11 (leb (width g) (length page)) ∷ startChecks g start
+
+  zero-from : (start : List ℕ) → firstUnmet (fileChecks f) ≡ none → firstUnmet (behindFile start) ≡ none
+      → pageCount (width g) page (restAfter (trees g) start) ≡ 0 → (lastOf (trees g) ≡ start) × (start ∈ trees g)
+  zero-from start ok h z =
+      let a = accepted f ok in
+      let met = met-all (behindFile start) .0 h in
+      let room = leb-true (width g) (length page) (met (check 11 (leb (width g) (length page))) (there (here refl))) in
+      let wide : 0 < pred (length (graphIn f .nodes)) = omega (arith, several f a) in
+      go start (λ c m. met c (there (there m))) (none-left (width g) page (restAfter (trees g) start) wide room z)
+    where
+      tree : T (someTree (trees g))
+      tree = T-true _ .1 (met-all (behindFile start) .0 h (check 12 (someTree (trees g))) (here refl))
+
+      go : (start : List ℕ) → ((c : Check) → c ∈ startChecks g start → c .met ≡ true) → restAfter (trees g) start ≡ [] → (lastOf (trees g) ≡ start) × (start ∈ trees g)
+      go [] met e = absurd (subst (λ (l : List (List ℕ)). T (someTree l)) e tree)
+      go (r ∷ rs) met e =
+          let m = start-listed g (formed f (accepted f ok)) r rs (met-all (startChecks g (r ∷ rs)) .1 met) in
+          (none-behind (trees g) (r ∷ rs) (trees-distinct g) m e, m)
+
+  -- Count 0 comes only where the start is the list's last tree.
+  pub count-zero : (start : List ℕ) (x : Paged) → pageCall f page start .outcome ≡ answered x → x .count ≡ 0
+      → (lastOf (trees (graphIn f)) ≡ start) × (start ∈ trees (graphIn f))
+  unfolding pageCall pageChecks
+  count-zero start x e z =
+      let (met, same) = ended-answered (pageChecks f page start) _ page _ x e in
+      let (ok, behind) = unmet-parts (fileChecks f) (behindFile start) met in
+      zero-from start ok behind (ap (λ (y : Paged). y .count) same ∙ z)

@@ -1,0 +1,142 @@
+-- Document 01's operations but Open (crate network): each gives, for every input, its outcome and every lent buffer afterwards.
+-- Each has its whole table of checks, in document 01's order. A definition that says "asked only after check .." may answer
+-- anything before: the table stops at the first check that is not met.
+use mathlib.Core.Bool.{Bool, _&&_, false, true}
+use mathlib.Core.Option.{Option, none, some}
+use mathlib.Core.List.{List, [], _++_, _∷_, map}
+use Prim.Native.Nat.{_*_, _+_, _-_, _/_, _^_, min, ℕ}
+use lib.Dec.{eqb, leb, ltb}
+use lib.ListN.{drop, length, take}
+use Rattle.lists.specs.Lists.{all, filterB, pick, sum}
+use Rattle.graph.specs.Graph.{Graph, isTree, rowNumbers, runs, width}
+use Rattle.graph.specs.Paths.{isMinimal, pathOf, trees}
+use Rattle.checks.specs.Checks.{Check, Ended, Outcome, answered, checked, ended, refused}
+use Rattle.costs.specs.Costs.{costOf, front}
+use Rattle.costs.specs.Network.{graphOf}
+use Rattle.network_file.specs.File.{fileChecks, networkOf, sizesOf, within}
+use Rattle.pages.specs.Pages.{flat, moreAfter, pageAfter, pageCount, restAfter}
+use Rattle.lists.proofs.Members.{_∈_}
+use mathlib.Core.Path.{_≡_}
+
+abbrev pub graphIn : List ℕ → Graph
+graphIn f = graphOf (networkOf f)
+
+abbrev pub check : ℕ → Bool → Check
+check number met = record { number = number; met = met }
+
+-- a buffer whose first places hold these numbers, and whose others keep their content
+abbrev pub over : List ℕ → List ℕ → List ℕ
+over places buffer = places ++ drop (length places) buffer
+
+-- Reach
+
+pub record Reached : Type 0 where
+  pub word : ℕ
+  pub size : ℕ
+
+-- the nodes that a run of rows joins to the plant, and the plant
+unfoldable pub reachedNodes : Graph → List ℕ
+reachedNodes g = filterB (λ v. runs g (rowNumbers g) (length (g .nodes)) (g .plant) v) (g .nodes)
+
+-- bit p - 1 for node p
+unfoldable pub wordOf : List ℕ → ℕ
+wordOf nodes = sum (map (λ p. 2 ^ (p - 1)) nodes)
+
+unfoldable pub reachCall : List ℕ → Outcome Reached
+reachCall f = checked (fileChecks f) (record { word = wordOf (reachedNodes (graphIn f)); size = length (reachedNodes (graphIn f)) })
+
+-- Order and Cost
+
+-- rows that were drawn in any sequence
+unfoldable pub drawnChecks : Graph → List ℕ → List Check
+drawnChecks g rows =
+    check 8 (eqb (length rows) (width g))
+    ∷ check 9 (all (λ r. ltb r (length (g .firstEnds))) rows)
+    ∷ check 10 (isTree g rows)
+    ∷ []
+
+-- asked only after check 10, where the rows have a path
+abbrev pub pathIn : Option (List ℕ) → List ℕ
+pathIn none = []
+pathIn (some path) = path
+
+unfoldable pub orderChecks : List ℕ → List ℕ → List ℕ → List Check
+orderChecks f rows buffer = fileChecks f ++ drawnChecks (graphIn f) rows ++ (check 11 (leb (width (graphIn f)) (length buffer)) ∷ [])
+
+unfoldable pub orderCall : List ℕ → List ℕ → List ℕ → Ended (Unit {0}) (List ℕ)
+orderCall f rows buffer = ended (orderChecks f rows buffer) tt buffer (over (pathIn (pathOf (graphIn f) rows)) buffer)
+
+unfoldable pub costChecks : List ℕ → List ℕ → List ℕ → List Check
+costChecks f rows buffer = fileChecks f ++ drawnChecks (graphIn f) rows ++ (check 11 (leb (sizesOf f .k) (length buffer)) ∷ [])
+
+unfoldable pub costCall : List ℕ → List ℕ → List ℕ → Ended (Unit {0}) (List ℕ)
+costCall f rows buffer = ended (costChecks f rows buffer) tt buffer (over (costOf (networkOf f) rows) buffer)
+
+-- Page
+
+abbrev pub someTree : List (List ℕ) → Bool
+someTree [] = false
+someTree (p ∷ l) = true
+
+-- the path to start after; an empty one has no checks
+unfoldable pub startChecks : Graph → List ℕ → List Check
+startChecks g [] = []
+startChecks g (r ∷ rs) = drawnChecks g (r ∷ rs) ++ (check 13 (isMinimal g (r ∷ rs)) ∷ [])
+
+pub record Paged : Type 0 where
+  pub count : ℕ
+  pub more : Bool
+
+unfoldable pub pageChecks : List ℕ → List ℕ → List ℕ → List Check
+pageChecks f page start =
+    fileChecks f
+    ++ (check 12 (someTree (trees (graphIn f))) ∷ check 11 (leb (width (graphIn f)) (length page)) ∷ startChecks (graphIn f) start)
+
+-- the trees behind the start are asked only after checks 10 and 13
+unfoldable pub pageCall : List ℕ → List ℕ → List ℕ → Ended Paged (List ℕ)
+pageCall f page start =
+    let w = width (graphIn f) in
+    let rest = restAfter (trees (graphIn f)) start in
+    ended (pageChecks f page start) (record { count = pageCount w page rest; more = moreAfter w page rest }) page (pageAfter w page rest)
+
+-- Pick: no refusal, and an empty part where n is out of range or the page ends before tree t does.
+
+unfoldable pub pickCall : ℕ → List ℕ → ℕ → List ℕ
+pickCall n page t = pick (within 2 32 n && leb (t * (n - 1) + (n - 1)) (length page)) (take (n - 1) (drop (t * (n - 1)) page)) []
+
+-- Front
+
+pub record Fronted : Type 0 where
+  pub count : ℕ
+  -- the mark: 'whole' if true, else 'cut'
+  pub whole : Bool
+
+-- the whole rows that both tables hold; asked only after check 3, where neither width is 0
+unfoldable pub capacity : List ℕ → List ℕ → List ℕ → ℕ
+capacity f costs witnesses = min (length costs / sizesOf f .k) (length witnesses / width (graphIn f))
+
+unfoldable pub frontChecks : List ℕ → List ℕ → List ℕ → List Check
+frontChecks f costs witnesses =
+    fileChecks f
+    ++ (check 12 (someTree (trees (graphIn f)))
+    ∷ check 11 (leb (sizesOf f .k) (length costs) && leb (width (graphIn f)) (length witnesses))
+    ∷ [])
+
+-- the outcome, and the cost table afterwards
+unfoldable pub frontCall : List ℕ → List ℕ → List ℕ → Ended Fronted (List ℕ)
+frontCall f costs witnesses =
+    let cap = capacity f costs witnesses in
+    let vectors = front (networkOf f) in
+    ended (frontChecks f costs witnesses) (record { count = min (length vectors) cap; whole = leb (length vectors) cap })
+    costs (over (flat (take cap vectors)) costs)
+
+abbrev pub rowsFilled : Outcome Fronted → ℕ
+rowsFilled (refused e) = 0
+rowsFilled (answered a) = a .count
+
+-- The witness table afterwards, `after`: for each vector of the front that fits, a tree of the list with that vector.
+pub record Witnesses (f costs witnesses after : List ℕ) : Type 0 where
+  pub paths : List (List ℕ)
+  pub listed : (p : List ℕ) → p ∈ paths → p ∈ trees (graphIn f)
+  pub vectors : map (costOf (networkOf f)) paths ≡ take (rowsFilled (frontCall f costs witnesses .outcome)) (front (networkOf f))
+  pub table : after ≡ over (flat paths) witnesses
