@@ -36,7 +36,29 @@ module _ {A : Type 0} (cs : List Check) (a : A) where
   unfolding checked
   checked-unmet e h = ap (λ (o : Option ℕ). outcomeBy o a) h
 
+  -- a refusal's number is that of the first check not met
+  pub checked-refused : (e : ℕ) → checked cs a ≡ refused e → firstUnmet cs ≡ some e
+  unfolding checked
+  checked-refused e = by (firstUnmet cs)
+    where
+      by : (o : Option ℕ) → outcomeBy o a ≡ refused e → o ≡ some e
+      by none h = let z : _≡_ {A = ℕ} 0 1 = cc in absurd (omega arith)
+      by (some d) h = cc
+
+  -- a call that answers has met all its checks
+  pub checked-answered : (x : A) → checked cs a ≡ answered x → (firstUnmet cs ≡ none) × (a ≡ x)
+  unfolding checked
+  checked-answered x = by (firstUnmet cs)
+    where
+      by : (o : Option ℕ) → outcomeBy o a ≡ answered x → (o ≡ none) × (a ≡ x)
+      by none h = (refl, cc)
+      by (some e) h = let z : _≡_ {A = ℕ} 0 1 = cc in absurd (omega arith)
+
 module _ {A B : Type 0} (cs : List Check) (a : A) (before after : B) where
+  pub ended-refused : (e : ℕ) → ended cs a before after .outcome ≡ refused e → firstUnmet cs ≡ some e
+  unfolding ended
+  ended-refused e h = checked-refused cs a e h
+
   pub ended-met : firstUnmet cs ≡ none → ended cs a before after ≡ record { outcome = answered a; buffers = after }
   unfolding ended checked
   ended-met h = ap (λ (o : Option ℕ). record { outcome = outcomeBy o a; buffers = buffersBy o before after }) h
@@ -45,11 +67,6 @@ module _ {A B : Type 0} (cs : List Check) (a : A) (before after : B) where
   unfolding ended checked
   ended-unmet e h = ap (λ (o : Option ℕ). record { outcome = outcomeBy o a; buffers = buffersBy o before after }) h
 
-  -- a call that answers has met all its checks
   pub ended-answered : (x : A) → ended cs a before after .outcome ≡ answered x → (firstUnmet cs ≡ none) × (a ≡ x)
-  unfolding ended checked
-  ended-answered x = by (firstUnmet cs)
-    where
-      by : (o : Option ℕ) → outcomeBy o a ≡ answered x → (o ≡ none) × (a ≡ x)
-      by none h = (refl, cc)
-      by (some e) h = let z : _≡_ {A = ℕ} 0 1 = cc in absurd (omega arith)
+  unfolding ended
+  ended-answered x h = checked-answered cs a x h

@@ -1,3 +1,4 @@
 pub mod Files
+pub mod Costs
 pub mod Runs
 pub mod Passing

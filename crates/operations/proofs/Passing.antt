@@ -3,15 +3,13 @@
 use mathlib.Core.Path.{_∙_, _≡_, ap, refl, subst, sym}
 use mathlib.Core.Bool.{true}
 use mathlib.Core.Option.{Option·none-ne-some, Option·some-injective, none, some}
-use mathlib.Core.List.{List, [], _∷_, map, List·Memᴰ·cases-cons as mem-cases, List·Memᴰ·head as here, List·Memᴰ·not-nil as mem-nil, List·Memᴰ·tail as there, Memᴰ·of-map as map-out}
-use mathlib.Core.Logic.{⊎-elim}
-use Prim.Native.Nat.{_*_, _/_, _<_, _≤_, pred, suc, zero, ℕ}
+use mathlib.Core.List.{List, [], _∷_, List·Memᴰ·head as here, List·Memᴰ·tail as there}
+use Prim.Native.Nat.{_/_, _<_, _≤_, pred, suc, zero, ℕ}
 use native.Mathlib.Nat.{le-div-iff-mul-le}
 use native.Mathlib.Omega.{arith}
 use lib.Dec.{T, leb}
-use lib.ListN.{drop, getElem?, length, length-map}
+use lib.ListN.{drop, getElem?, length}
 use borrow.Author.Tests.{leb-true}
-use Rattle.lists.specs.Lists.{largest, sum}
 use Rattle.lists.proofs.Ascending.{mem-at}
 use Rattle.lists.proofs.Distinct.{Distinct}
 use Rattle.lists.proofs.Members.{_∈_}
@@ -24,11 +22,10 @@ use Rattle.graph.proofs.Trees.{trees-distinct, trees-minimal}
 use Rattle.checks.specs.Checks.{Check, answered, firstUnmet}
 use Rattle.checks.proofs.Checks.{met-all}
 use Rattle.checks.proofs.Ended.{ended-answered, unmet-parts}
-use Rattle.costs.specs.Costs.{addedCost, costAt, costBy, costOf, costsFrom}
-use Rattle.costs.specs.Network.{Kind, added, closing, worst}
+use Rattle.costs.specs.Costs.{costOf}
 use Rattle.forests.proofs.Forest.{Forest}
 use Rattle.forests.proofs.Spanning.{tree-forest}
-use Rattle.bounds.proofs.Closing.{closing-added}
+use Rattle.bounds.proofs.Limits.{costs-most}
 use Rattle.network_file.specs.File.{fileChecks, networkOf}
 use Rattle.network_file.proofs.Accepted.{Accepted, accepted}
 use Rattle.pages.specs.Pages.{behind, lastOf, pageCount, restAfter}
@@ -40,44 +37,11 @@ use Rattle.operations.proofs.Files.{formed, node-count, several}
 pub no-cycle : (f : List ℕ) → Accepted f → (rows : List ℕ) → T (isTree (graphIn f) rows) → Forest (graphIn f) rows
 no-cycle f a = tree-forest (graphIn f) (formed f a)
 
--- The greatest cost
-
-sum-most : (b : ℕ) (l : List ℕ) → ((x : ℕ) → x ∈ l → x ≤ b) → sum l ≤ length l * b
-unfolding sum
-sum-most b [] h = omega arith
-sum-most b (x ∷ l) h = omega (arith, h x (here refl), sum-most b l (λ y m. h y (there m)))
-
-largest-most : (b : ℕ) (l : List ℕ) → ((x : ℕ) → x ∈ l → x ≤ b) → largest l ≤ b
-unfolding largest
-largest-most b [] h = omega arith
-largest-most b (x ∷ l) h = omega (arith, h x (here refl), largest-most b l (λ y m. h y (there m)))
-
-module _ (f : List ℕ) (a : Accepted f) where
-  cost-most : (c : ℕ) (rows : List ℕ) (x : ℕ) → x ∈ map (costAt (networkOf f) c) rows → x ≤ 1000000
-  cost-most c rows x m = let (r, _, e) = map-out (costAt (networkOf f) c) rows m in subst (λ (y : ℕ). y ≤ 1000000) e (a .costs c r)
-
-  added-most : (c : ℕ) (rows : List ℕ) → length rows ≤ 31 → addedCost (networkOf f) c rows ≤ 31000000
-  added-most c rows h =
-      omega (arith, sum-most 1000000 (map (costAt (networkOf f) c) rows) (cost-most c rows), length-map rows (costAt (networkOf f) c))
-
-  by-kind : (kind : Kind) (c : ℕ) (rows : List ℕ) → length rows ≤ 31 → costBy kind (networkOf f) c rows ≤ 31000000
-  by-kind added c rows h = added-most c rows h
-  by-kind worst c rows h = omega (arith, largest-most 1000000 (map (costAt (networkOf f) c) rows) (cost-most c rows))
-  by-kind closing c rows h = rw (closing-added (networkOf f) c rows) (added-most c rows h)
-
-  from-kinds : (c : ℕ) (kinds : List Kind) (rows : List ℕ) → length rows ≤ 31 → (x : ℕ) → x ∈ costsFrom (networkOf f) c kinds rows → x ≤ 31000000
-  unfolding costsFrom
-  from-kinds c [] rows h x m = absurd (mem-nil m)
-  from-kinds c (kind ∷ kinds) rows h x m = ⊎-elim
-      (λ (e : x ≡ costBy kind (networkOf f) c rows). rw e (by-kind kind c rows h))
-      (λ i. from-kinds (suc c) kinds rows h x i)
-      (mem-cases m)
-
-  -- The greatest cost of a spanning tree, in any criterion.
-  pub greatest-cost : (rows : List ℕ) → T (isTree (graphIn f) rows) → (x : ℕ) → x ∈ costOf (networkOf f) rows → x ≤ 31000000
-  unfolding costOf
-  greatest-cost rows t x m =
-      from-kinds 0 (networkOf f .kinds) rows (omega (arith, tree-out (graphIn f) rows t .size, node-count f, a .nodes-high)) x m
+-- The greatest cost of a spanning tree, in any criterion.
+pub greatest-cost : (f : List ℕ) → Accepted f → (rows : List ℕ) → T (isTree (graphIn f) rows) → (x : ℕ) → x ∈ costOf (networkOf f) rows → x ≤ 31000000
+unfolding costOf
+greatest-cost f a rows t x m =
+    omega (arith, costs-most (networkOf f) 1000000 (a .costs) 0 (networkOf f .kinds) rows x m, tree-out (graphIn f) rows t .size, node-count f, a .nodes-high)
 
 -- Count 0
 

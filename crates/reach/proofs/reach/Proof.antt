@@ -1,0 +1,91 @@
+use mathlib.Core.Path.{_∙_, _≡_, ap, sym}
+use lib.Seq.{length-take-le}
+use borrow.Author.Needs.{needs}
+use Rattle.checks.specs.Checks.{answered}
+use Rattle.network.specs.Answers.{openedOf, sizesIn}
+use Rattle.network_file.specs.File.{openOf}
+use Rattle.reach.specs.Answers.{refusedBy}
+use Rattle.reach.proofs.Opened.{reach-answered, reach-refused, rows-fit}
+use Rattle.reach.proofs.reach.Statement.{statement}
+use Rattle.reach.proofs.reach.Tie as tie
+
+open-requires : tie.Need-open-requires
+open-requires c κs = search needs
+
+enum-known-opened : tie.Need-enum-known-opened
+enum-known-opened c = search needs
+
+enum-told : tie.Need-enum-told
+enum-told c = search needs
+
+refused-requires : tie.Need-refused-requires
+refused-requires c κs = search needs
+
+returns : tie.Need-returns
+returns c =
+    let told = c .before .enum-told .given .1 in
+    c .refused .ensures ∙ ap (λ opened. refusedBy (openedOf opened)) told
+    ∙ reach-refused _ _ (sym (c .before .before .before .«open» .ensures) ∙ ap openedOf told)
+
+cast-m : tie.Need-cast-m
+cast-m c = search needs
+
+first-ends-requires : tie.Need-first-ends-requires
+first-ends-requires c κs = search needs
+
+second-ends-requires : tie.Need-second-ends-requires
+second-ends-requires c κs = search needs
+
+nodes-word-requires : tie.Need-nodes-word-requires
+nodes-word-requires c κs = search needs
+
+-- the header is Open's answer
+sizes : (c : tie.After-opened) → openOf (c .before .before .before .before .args .file .now) ≡ answered (sizesIn (c .opened .given .0 .0))
+sizes c = sym (c .before .before .«open» .ensures) ∙ ap openedOf (c .opened .given .1)
+
+array-share-prefix-firsts : tie.Need-array-share-prefix-firsts
+array-share-prefix-firsts c = rows-fit _ _ (sizes (c .before .before .before .before .before)) _ _ (c .before .before .first-ends .ensures)
+
+slice-aggregate-reached-word : tie.Need-slice-aggregate-reached-word
+slice-aggregate-reached-word c =
+    sym (length-take-le _ _ (rows-fit _ _ (sizes (c .before .before .before .before .before .before)) _ _ (c .before .before .before .first-ends .ensures)))
+
+array-share-prefix-seconds : tie.Need-array-share-prefix-seconds
+array-share-prefix-seconds c = rows-fit _ _ (sizes (c .before .before .before .before .before .before)) _ _ (c .before .before .second-ends .ensures)
+
+slice-aggregate-reached-word-2 : tie.Need-slice-aggregate-reached-word-2
+slice-aggregate-reached-word-2 c =
+    sym (length-take-le _ _ (rows-fit _ _ (sizes (c .before .before .before .before .before .before .before)) _ _ (c .before .before .before .second-ends .ensures)))
+
+reached-word-requires : tie.Need-reached-word-requires
+reached-word-requires c κs = search needs
+
+cast-word : tie.Need-cast-word
+cast-word c = search needs
+
+returns-2 : tie.Need-returns-2
+returns-2 c =
+    reach-answered _ _ (sizes (c .before .before .before .before .before .before .before .before)) _ _ _ _
+    (c .before .before .before .before .before .first-ends .ensures) (c .before .before .before .before .second-ends .ensures)
+    (c .before .before .before .nodes-word .ensures) (c .reached-word .ensures)
+
+pub reach-spec : {M : Type 1} → statement M
+reach-spec =
+    tie.close
+    (tie.spec
+    open-requires
+    enum-known-opened
+    enum-told
+    refused-requires
+    returns
+    cast-m
+    first-ends-requires
+    second-ends-requires
+    nodes-word-requires
+    array-share-prefix-firsts
+    slice-aggregate-reached-word
+    array-share-prefix-seconds
+    slice-aggregate-reached-word-2
+    reached-word-requires
+    cast-word
+    returns-2)

@@ -1,0 +1,142 @@
+-- The rows of a path as the loops over them meet them: their number, those from step i on, the rules of cost step by step, that no sum is too large,
+-- and the rule that a criterion's byte names.
+use mathlib.Core.Path.{_∙_, _≡_, ap, sym}
+use mathlib.Core.Bool.{Bool, false, true}
+use mathlib.Core.List.{List, [], _∷_}
+use Prim.Native.Nat.{_*_, _+_, _<_, _≤_, max, ℕ}
+use native.Mathlib.Decide.{decLt}
+use native.Mathlib.Numerals.{add-one}
+use native.Mathlib.Omega.{arith}
+use lib.ListN.{drop, drop-of-length-le, length, length-map}
+use lib.Seq.{drop-cons}
+use mir.Syntax.{w8}
+use mir.Val.{Fits}
+use borrow.Author.Tests.{eq-eqb, le-ltb, lt-ltb, ne-eqb}
+use Rattle.lists.specs.Lists.{any, filterB, largest, sum}
+use Rattle.lists.proofs.Members.{filter-length}
+use Rattle.lists.proofs.Ranges.{getD-map-past, getD-map-range}
+use Rattle.graph.specs.Paths.{Key}
+use Rattle.costs.specs.Costs.{addedCost, costAt, inStreet, streetCost, worstCost}
+use Rattle.costs.specs.Network.{Network, noRow, rowAt}
+use Rattle.bounds.proofs.Limits.{added-most}
+use Rattle.network_file.specs.File.{Sizes, byteAt, kindOf, networkOf, rowIn, rowStart, sizesOf, u16At, u32At}
+use Rattle.network.specs.Answers.{kindIn}
+use Rattle.network.specs.declared.ByteKind.{ByteKind}
+use Rattle.paths.specs.Path.{keysOf, lengthOf}
+use Rattle.paths.specs.declared.Path.{Path}
+use Rattle.paths.proofs.Laws.{keys-length}
+use Rattle.vector.specs.Vector.{Counted, costByte, criterionOf, liesIn, rowsIn, stepRow}
+
+pub path-counted : (p : Path) (n : ℕ) → n ≡ lengthOf p → length (p .nodes) ≡ 32 → length (p .rows) ≡ 31 → length (p .pivots) ≡ 31 → Counted (rowsIn p) n
+path-counted p n e nodes rows pivots =
+    record { whole = e ∙ sym (length-map (keysOf p) (λ (k : Key). k .row) ∙ keys-length p nodes rows pivots); few = omega arith }
+
+-- The rows from step i on
+
+module _ {rows : List ℕ} {n : ℕ} (counted : Counted rows n) (i : ℕ) where
+  pub next : i < n → drop i rows ≡ stepRow rows i ∷ drop (i + 1) rows
+  next h = rw add-one (drop-cons rows i 0 (omega arith))
+
+  pub past : n ≤ i → drop i rows ≡ []
+  past h = let over : length rows ≤ i = omega arith in drop-of-length-le rows over
+
+  -- whether some of them pass a test
+  module _ (p : ℕ → Bool) where
+    pub any-found : i < n → p (stepRow rows i) ≡ true → any p (drop i rows) ≡ true
+    unfolding any
+    any-found h e = ap (any p) (next h) ∙ (rw e)
+
+    pub any-next : i < n → p (stepRow rows i) ≡ false → any p (drop i rows) ≡ any p (drop (i + 1) rows)
+    unfolding any
+    any-next h e = ap (any p) (next h) ∙ (rw e)
+
+    pub any-past : n ≤ i → any p (drop i rows) ≡ false
+    unfolding any
+    any-past h = ap (any p) (past h)
+
+-- The rules of cost, in a loop that has come to step i with `so`, the sum or the largest so far; x is the cost of the row at step i
+
+pub record AddedTo (g : Network) (c : ℕ) (rows : List ℕ) (i so : ℕ) : Type 0 where
+  pub comes : addedCost g c rows ≡ so + addedCost g c (drop i rows)
+
+pub record WorstTo (g : Network) (c : ℕ) (rows : List ℕ) (i so : ℕ) : Type 0 where
+  pub comes : worstCost g c rows ≡ max so (worstCost g c (drop i rows))
+
+-- of the rows in street s
+pub record StreetTo (g : Network) (c s : ℕ) (rows : List ℕ) (i so : ℕ) : Type 0 where
+  pub comes : streetCost g c rows s ≡ so + streetCost g c (drop i rows) s
+
+module _ {g : Network} {c : ℕ} {rows : List ℕ} {n i so : ℕ} (counted : Counted rows n) where
+  pub added-turn : {x : ℕ} → i < n → AddedTo g c rows i so → x ≡ costAt g c (stepRow rows i) → AddedTo g c rows (i + 1) (so + x)
+  unfolding sum
+  added-turn h inv e = record { comes = omega (arith, ap (addedCost g c) (next counted i h)) }
+
+  pub added-end : n ≤ i → AddedTo g c rows i so → so ≡ addedCost g c rows
+  unfolding sum
+  added-end h inv = omega (arith, ap (addedCost g c) (past counted i h))
+
+  pub worst-more : {x : ℕ} → i < n → WorstTo g c rows i so → x ≡ costAt g c (stepRow rows i) → so < x → WorstTo g c rows (i + 1) x
+  unfolding largest
+  worst-more h inv e l = record { comes = omega (arith, ap (worstCost g c) (next counted i h)) }
+
+  pub worst-same : {x : ℕ} → i < n → WorstTo g c rows i so → x ≡ costAt g c (stepRow rows i) → x ≤ so → WorstTo g c rows (i + 1) so
+  unfolding largest
+  worst-same h inv e l = record { comes = omega (arith, ap (worstCost g c) (next counted i h)) }
+
+  pub worst-end : n ≤ i → WorstTo g c rows i so → so ≡ worstCost g c rows
+  unfolding largest
+  worst-end h inv = omega (arith, ap (worstCost g c) (past counted i h))
+
+  module _ {s : ℕ} where
+    pub street-turn : {x : ℕ} → i < n → StreetTo g c s rows i so → rowAt g (stepRow rows i) .street ≡ s → x ≡ costAt g c (stepRow rows i)
+        → StreetTo g c s rows (i + 1) (so + x)
+    unfolding sum filterB
+    street-turn h inv on e =
+        record { comes = omega (arith, rw (eq-eqb _ _ on) at (ap (λ (l : List ℕ). streetCost g c l s) (next counted i h))) }
+
+    pub street-skip : i < n → StreetTo g c s rows i so → (rowAt g (stepRow rows i) .street ≡ s → ⊥) → StreetTo g c s rows (i + 1) so
+    unfolding filterB
+    street-skip h inv off =
+        record { comes = omega (arith, rw (ne-eqb _ _ off) at (ap (λ (l : List ℕ). streetCost g c l s) (next counted i h))) }
+
+    pub street-end : n ≤ i → StreetTo g c s rows i so → so ≡ streetCost g c rows s
+    unfolding sum filterB
+    street-end h inv = omega (arith, ap (λ (l : List ℕ). streetCost g c l s) (past counted i h))
+
+-- No sum is too large: a cost is a number of four bytes
+
+module _ (f : List ℕ) (bytes : (i : ℕ) → Fits w8 (byteAt f i)) where
+  word : (at : ℕ) → u32At f at ≤ 4294967295
+  unfolding u32At u16At
+  word at = omega (arith, bytes at, bytes (at + 1), bytes (at + 2), bytes (at + 2 + 1))
+
+  pub cost-word : (c r : ℕ) → costAt (networkOf f) c r ≤ 4294967295
+  unfolding networkOf rowIn
+  cost-word c r = elim (decLt r (sizesOf f .m)) [
+    | yes h ↦ rw (getD-map-range (rowIn f) (sizesOf f .m) r noRow h) (elim (decLt c (sizesOf f .k)) [
+      | yes l ↦ rw (getD-map-range (λ c. u32At f (rowStart f r + 4 + 4 * c)) (sizesOf f .k) c 0 l) (word _)
+      | no l ↦ rw (getD-map-past (λ c. u32At f (rowStart f r + 4 + 4 * c)) (sizesOf f .k) c 0 (omega arith)) (omega arith)
+    ])
+    | no h ↦ rw (getD-map-past (rowIn f) (sizesOf f .m) r noRow (omega arith)) (omega arith)
+  ]
+
+  module _ {c : ℕ} {rows : List ℕ} {n i so : ℕ} (counted : Counted rows n) where
+    pub added-fits : AddedTo (networkOf f) c rows i so → so ≤ 31 * 4294967295
+    added-fits inv = omega (arith, added-most (networkOf f) 4294967295 cost-word c rows)
+
+    pub street-fits : {s : ℕ} → StreetTo (networkOf f) c s rows i so → so ≤ 31 * 4294967295
+    street-fits {s} inv =
+        omega (arith, added-most (networkOf f) 4294967295 cost-word c (inStreet (networkOf f) s rows), filter-length (liesIn (networkOf f) s) rows)
+
+-- A criterion's cost, where the code has read the file's sizes s
+
+module _ (f : List ℕ) (c : ℕ) (rows : List ℕ) {s : Sizes} (same : s ≡ sizesOf f) where
+  -- and the kind that is named by the byte b
+  pub criterion-by : c < s .k → {b : ℕ} {kind known : ByteKind} → b ≡ byteAt f (9 + c) → kindIn kind ≡ kindOf b → kind ≡ known
+      → costByte (kindIn known) f c rows ≡ criterionOf f c rows
+  unfolding criterionOf
+  criterion-by h read named is = rw (lt-ltb _ _ (rw same at h), ← read, ← named, is)
+
+  pub criterion-none : s .k ≤ c → 0 ≡ criterionOf f c rows
+  unfolding criterionOf
+  criterion-none h = rw (le-ltb _ _ (rw same at h))

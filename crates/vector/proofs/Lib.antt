@@ -1,0 +1,3 @@
+pub mod Laws
+pub mod Streets
+pub mod Vectors

@@ -1,0 +1,62 @@
+-- The loop's invariant: a row from step i on lies in the street exactly if one from step j on does.
+use mathlib.Core.Path.{_∙_, _≡_, sym}
+use Prim.Native.Nat.{_-_}
+use lib.ListN.{drop}
+use borrow.Author.Needs.{needs}
+use borrow.Author.Tests.{eq-eqb, ne-eqb}
+use Rattle.lists.specs.Lists.{any}
+use Rattle.network_file.specs.File.{networkOf}
+use Rattle.vector.specs.Vector.{liesIn, rowsIn}
+use Rattle.vector.proofs.Laws.{any-found, any-next, any-past}
+use Rattle.vector.proofs.comes_later.Statement.{statement}
+use Rattle.vector.proofs.comes_later.Tie as tie
+
+abbrev Inv-loop : tie.InvT-loop
+Inv-loop file path i street n j₀ j =
+    any (liesIn (networkOf file) street) (drop i (rowsIn path)) ≡ any (liesIn (networkOf file) street) (drop j (rowsIn path))
+
+abbrev μ-loop : tie.MeasureT-loop
+μ-loop file path i street n j₀ j = n - j
+
+steps-requires : tie.Need-steps-requires Inv-loop μ-loop
+steps-requires c κs = search needs
+
+loop-holds : tie.Need-loop-holds Inv-loop μ-loop
+loop-holds c = search needs
+
+street-of-requires : tie.Need-street-of-requires Inv-loop μ-loop
+street-of-requires c κs = search needs
+
+returns : tie.Need-returns Inv-loop μ-loop
+returns c =
+    sym (c .before .before .before .loop .inv ∙ any-found (c .before .before .before .before .steps .ensures) _ _ (c .before .before .loop-test .taken)
+    (eq-eqb _ _ (sym (c .before .street-of .ensures) ∙ c .if1 .taken)))
+
+add-j : tie.Need-add-j Inv-loop μ-loop
+add-j c = search needs
+
+loop-less : tie.Need-loop-less Inv-loop μ-loop
+loop-less c = search needs
+
+loop-again : tie.Need-loop-again Inv-loop μ-loop
+loop-again c =
+    c .before .before .before .loop .inv ∙ any-next (c .before .before .before .before .steps .ensures) _ _ (c .before .before .loop-test .taken)
+    (ne-eqb _ _ (λ e. c .if1 .left (c .before .street-of .ensures ∙ e)))
+
+returns-2 : tie.Need-returns-2 Inv-loop μ-loop
+returns-2 c = sym (c .before .loop .inv ∙ any-past (c .before .before .steps .ensures) _ _ (c .loop-test .left))
+
+pub comes-later-spec : {M : Type 1} → statement M
+comes-later-spec =
+    tie.close
+    (tie.spec
+    Inv-loop
+    μ-loop
+    steps-requires
+    loop-holds
+    street-of-requires
+    returns
+    add-j
+    loop-less
+    loop-again
+    returns-2)

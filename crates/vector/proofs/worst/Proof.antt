@@ -1,0 +1,61 @@
+-- The loop's invariant: the largest of all costs is the larger of the largest so far and that from step i on.
+use Prim.Native.Nat.{_-_}
+use borrow.Author.Needs.{needs}
+use Rattle.network_file.specs.File.{networkOf}
+use Rattle.vector.specs.Vector.{rowsIn}
+use Rattle.vector.proofs.Laws.{WorstTo, worst-end, worst-more, worst-same}
+use Rattle.vector.proofs.worst.Statement.{statement}
+use Rattle.vector.proofs.worst.Tie as tie
+
+abbrev Inv-loop : tie.InvT-loop
+Inv-loop file criterion path n most₀ i₀ most i = WorstTo (networkOf file) criterion (rowsIn path) i most
+
+abbrev μ-loop : tie.MeasureT-loop
+μ-loop file criterion path n most₀ i₀ most i = n - i
+
+steps-requires : tie.Need-steps-requires Inv-loop μ-loop
+steps-requires c κs = search needs
+
+loop-holds : tie.Need-loop-holds Inv-loop μ-loop
+loop-holds c = search needs
+
+cost-of-requires : tie.Need-cost-of-requires Inv-loop μ-loop
+cost-of-requires c κs = search needs
+
+add-i : tie.Need-add-i Inv-loop μ-loop
+add-i c = search needs
+
+loop-less : tie.Need-loop-less Inv-loop μ-loop
+loop-less c = search needs
+
+loop-again : tie.Need-loop-again Inv-loop μ-loop
+loop-again c =
+    worst-more (c .before .before .before .before .steps .ensures) (c .before .before .loop-test .taken) (c .before .before .before .loop .inv)
+    (c .before .cost-of .ensures) (c .if1 .taken)
+
+loop-less-2 : tie.Need-loop-less-2 Inv-loop μ-loop
+loop-less-2 c = search needs
+
+loop-again-2 : tie.Need-loop-again-2 Inv-loop μ-loop
+loop-again-2 c =
+    worst-same (c .before .before .before .before .steps .ensures) (c .before .before .loop-test .taken) (c .before .before .before .loop .inv)
+    (c .before .cost-of .ensures) (c .if1 .left)
+
+returns : tie.Need-returns Inv-loop μ-loop
+returns c = worst-end (c .before .before .steps .ensures) (c .loop-test .left) (c .before .loop .inv)
+
+pub worst-spec : {M : Type 1} → statement M
+worst-spec =
+    tie.close
+    (tie.spec
+    Inv-loop
+    μ-loop
+    steps-requires
+    loop-holds
+    cost-of-requires
+    add-i
+    loop-less
+    loop-again
+    loop-less-2
+    loop-again-2
+    returns)

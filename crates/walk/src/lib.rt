@@ -1,0 +1,118 @@
+//! The walk over the list of minimal paths: the next path behind all that begin alike.
+//! Each function is equal to its model in specs/Walk.antt, on every input.
+ghost use mathlib.Core.Path.{_≡_};
+ghost use Rattle.paths.specs.Path.{keysOf, plantOf};
+ghost use Rattle.walk.specs.Walk.{afterOf, nextOf, skipOf};
+use paths::Path;
+use search::RowFound;
+
+/// A path that may be missing.
+pub struct Next {
+    pub some: bool,
+    pub path: Path,
+}
+
+/// The first path behind all that go on from a path by this step.
+pub fn skip(
+    neighbours: &[u64],
+    firsts: &[u8],
+    seconds: &[u8],
+    limit: u8,
+    steps: usize,
+    fresh: u64,
+    path: Path,
+    place: u8,
+    node: u8,
+    row: u16,
+) -> Next
+    ensures { λ r. ⌜ (plantOf (r .path) ≡ plantOf path) × (nextOf r ≡ skipOf (now (neighbours .entry)) (now (firsts .entry)) (now (seconds .entry)) limit (plantOf path) steps fresh (keysOf path) (record { place = place; node = node; row = row })) ⌝ }
+{
+    let at = place as usize;
+    let pivot = path.entered_at(at);
+    let beside = search::next_row(firsts, seconds, row as usize, pivot, node);
+    if let RowFound::Row(r) = beside {
+        let rest = words::minus(fresh, words::bit(node));
+        let left = if 0 < steps { steps - 1 } else { 0 };
+        let next = path.extended(place, node, (r % 65536) as u16);
+        let grown = grow::grown(
+            neighbours,
+            firsts,
+            seconds,
+            limit,
+            left,
+            rest,
+            next,
+            at,
+            node,
+        );
+        return Next {
+            some: true,
+            path: grown,
+        };
+    }
+    if grow::open_past(neighbours, limit, fresh, path, at, node) {
+        return Next {
+            some: true,
+            path: grow::grown(
+                neighbours,
+                firsts,
+                seconds,
+                limit,
+                steps,
+                fresh,
+                path,
+                at,
+                node,
+            ),
+        };
+    }
+    Next {
+        some: false,
+        path: path,
+    }
+}
+
+/// The first path behind all that begin with the first `len` steps of a path.
+pub fn after(
+    neighbours: &[u64],
+    firsts: &[u8],
+    seconds: &[u8],
+    limit: u8,
+    nodes: u64,
+    width: usize,
+    path: Path,
+    len: usize,
+) -> Next
+    ensures { λ r. ⌜ (plantOf (r .path) ≡ plantOf path) × (nextOf r ≡ afterOf (now (neighbours .entry)) (now (firsts .entry)) (now (seconds .entry)) limit (plantOf path) nodes width (keysOf path) len) ⌝ }
+{
+    let prefix = path.shortened(len);
+    let mut i = prefix.length();
+    let mut fresh = grow::fresh_after(nodes, prefix);
+    while 0 < i {
+        i -= 1;
+        let place = path.pivot_at(i);
+        let node = path.node_at(i);
+        let row = path.row_at(i);
+        let steps = if i < width { width - i } else { 0 };
+        fresh = fresh | words::bit(node);
+        let next = skip(
+            neighbours,
+            firsts,
+            seconds,
+            limit,
+            steps,
+            fresh,
+            path.shortened(i),
+            place,
+            node,
+            row,
+        );
+        if next.some {
+            return next;
+        }
+    }
+    Next {
+        some: false,
+        path: path,
+    }
+}
