@@ -1,4 +1,5 @@
-//! What can be wrong with a network file: faults by name, each with the check of document 01 that it runs into.
+//! What can be wrong with a network file: faults by name, each with the check of document 01 that it runs into; and
+//! files with a fault or two.
 
 use crate::file::{mend_length, Network, MOST};
 use crate::rng::Rng;
@@ -213,6 +214,21 @@ pub const FAULTS: [Fault; 32] = [
         true
     }),
 ];
+
+/// The network's file with one fault, or two.
+pub fn damaged(network: &Network, rng: &mut Rng) -> Vec<u8> {
+    let sizes = Sizes {
+        n: network.n as usize,
+        m: network.m(),
+        k: network.k(),
+    };
+    let mut file = network.encode();
+    for _ in 0..rng.between(1, 2) {
+        let fault = rng.between(0, FAULTS.len() - 1);
+        (FAULTS[fault].damage)(&mut file, sizes, rng);
+    }
+    file
+}
 
 /// Writes bytes over the file's own, if the file has that many from there on.
 fn put(file: &mut [u8], at: usize, bytes: &[u8]) -> bool {

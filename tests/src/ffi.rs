@@ -1,15 +1,109 @@
 //! The functions that the crate planner_c exports, and a safe function over each.
 //! Nothing checks these declarations against crates/planner_c/src/lib.rt: keep the two in step.
 
-/// What every call returns, before any check, where the answer has too few places.
+/// What a call returns, before any check, where the answer has too few places.
 pub const SHORT_ANSWER: u32 = 255;
 
 #[link(name = "planner_c", kind = "static")]
 extern "C" {
     fn planner_open(file: *const u8, file_len: usize, answer: *mut u32, answer_len: usize) -> u32;
+
+    fn planner_reach(file: *const u8, file_len: usize, answer: *mut u32, answer_len: usize) -> u32;
+
+    fn planner_order(
+        file: *const u8,
+        file_len: usize,
+        rows: *const u16,
+        rows_len: usize,
+        buffer: *mut u16,
+        buffer_len: usize,
+    ) -> u32;
+
+    fn planner_cost(
+        file: *const u8,
+        file_len: usize,
+        rows: *const u16,
+        rows_len: usize,
+        buffer: *mut u32,
+        buffer_len: usize,
+    ) -> u32;
+
+    fn planner_pick(
+        n: u32,
+        page: *const u16,
+        page_len: usize,
+        t: u64,
+        out: *mut u16,
+        out_len: usize,
+    ) -> u64;
+
+    fn planner_page(
+        file: *const u8,
+        file_len: usize,
+        page: *mut u16,
+        page_len: usize,
+        start: *const u16,
+        start_len: usize,
+        answer: *mut u32,
+        answer_len: usize,
+    ) -> u32;
 }
 
 /// Open: 0 with n, m, k in the first three places of the answer, or the refusal's number.
 pub fn open(file: &[u8], answer: &mut [u32]) -> u32 {
     unsafe { planner_open(file.as_ptr(), file.len(), answer.as_mut_ptr(), answer.len()) }
+}
+
+/// Reach: 0 with the word and the size in the first two places of the answer, or the refusal's number.
+pub fn reach(file: &[u8], answer: &mut [u32]) -> u32 {
+    unsafe { planner_reach(file.as_ptr(), file.len(), answer.as_mut_ptr(), answer.len()) }
+}
+
+/// Order: 0 with the path in the buffer's first n - 1 places, or the refusal's number.
+pub fn order(file: &[u8], rows: &[u16], buffer: &mut [u16]) -> u32 {
+    unsafe {
+        planner_order(
+            file.as_ptr(),
+            file.len(),
+            rows.as_ptr(),
+            rows.len(),
+            buffer.as_mut_ptr(),
+            buffer.len(),
+        )
+    }
+}
+
+/// Cost: 0 with the vector in the buffer's first k places, or the refusal's number.
+pub fn cost(file: &[u8], rows: &[u16], buffer: &mut [u32]) -> u32 {
+    unsafe {
+        planner_cost(
+            file.as_ptr(),
+            file.len(),
+            rows.as_ptr(),
+            rows.len(),
+            buffer.as_mut_ptr(),
+            buffer.len(),
+        )
+    }
+}
+
+/// Pick: the length of the part, with as much of it as fits in the first places of out.
+pub fn pick(n: u32, page: &[u16], t: u64, out: &mut [u16]) -> u64 {
+    unsafe { planner_pick(n, page.as_ptr(), page.len(), t, out.as_mut_ptr(), out.len()) }
+}
+
+/// Page: 0 with the count and the mark, 1 for 'more', in the first two places of the answer, or the refusal's number.
+pub fn page(file: &[u8], page: &mut [u16], start: &[u16], answer: &mut [u32]) -> u32 {
+    unsafe {
+        planner_page(
+            file.as_ptr(),
+            file.len(),
+            page.as_mut_ptr(),
+            page.len(),
+            start.as_ptr(),
+            start.len(),
+            answer.as_mut_ptr(),
+            answer.len(),
+        )
+    }
 }

@@ -1,8 +1,14 @@
 //! What the tests of the proved library share: the calls, a generator of numbers, network files, what damages them,
-//! and an independent reading of document 01.
+//! networks and drawn rows, lent buffers, and independent code for document 01 in plain Rust: `reading`, `trees`,
+//! `costs` and `operations`.
 
+pub mod costs;
 pub mod damage;
+pub mod draw;
 pub mod ffi;
 pub mod file;
+pub mod lent;
+pub mod operations;
 pub mod reading;
 pub mod rng;
+pub mod trees;

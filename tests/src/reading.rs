@@ -1,5 +1,7 @@
-//! An independent reading of document 01 in plain Rust, to which the proved library is held.
-//! It is written from the document's text alone and wants to be obvious, not fast.
+//! The network file as document 01 describes it: Open's checks, and the network that a file holds.
+//! Like all of the independent code it is written from the document's text alone and wants to be obvious, not fast.
+
+use crate::file::{Network, Row};
 
 /// The most significant byte comes first.
 fn number(bytes: &[u8]) -> usize {
@@ -60,4 +62,21 @@ pub fn open(file: &[u8]) -> Result<(u32, u32, u32), u32> {
     }
 
     Ok((n as u32, m as u32, k as u32))
+}
+
+/// The network that a file holds, or the number of the first check that refuses the file.
+pub fn network(file: &[u8]) -> Result<Network, u32> {
+    let (n, _, k) = open(file)?;
+    let k = k as usize;
+    let (kinds, rows) = file[9..].split_at(k);
+    let row = |row: &[u8]| Row {
+        ends: [row[0], row[1]],
+        street: number(&row[2..4]) as u16,
+        costs: row[4..].chunks(4).map(|cost| number(cost) as u32).collect(),
+    };
+    Ok(Network {
+        n: n as u8,
+        kinds: kinds.to_vec(),
+        rows: rows.chunks(4 + 4 * k).map(row).collect(),
+    })
 }

@@ -4,29 +4,20 @@
 use planner_tests::damage::{Fault, Sizes, FAULTS};
 use planner_tests::ffi::{self, SHORT_ANSWER};
 use planner_tests::file::{mend_length, network_a, Network, MOST, NETWORK_A};
+use planner_tests::lent::Lent;
 use planner_tests::reading;
 use planner_tests::rng::Rng;
 
-/// Places beyond those that are lent, to see that none of them is written.
-const BEYOND: usize = 4;
-
 /// Calls Open with so many places and holds the return value and every place to what is expected.
 fn expect(file: &[u8], places: usize, code: u32, written: &[u32], rng: &mut Rng) {
-    let before: Vec<u32> = (0..places + BEYOND).map(|_| rng.word() as u32).collect();
-    let mut after = before.clone();
-    let returned = ffi::open(file, &mut after[..places]);
+    let mut answer = Lent::new(places, || rng.word() as u32);
+    let returned = ffi::open(file, answer.part());
     let told = || {
         let head = &file[..file.len().min(64)];
         format!("{} bytes: {head:02x?}; {places} places", file.len())
     };
     assert_eq!(returned, code, "{}", told());
-    assert_eq!(after[..written.len()], *written, "{}", told());
-    assert_eq!(
-        after[written.len()..],
-        before[written.len()..],
-        "{}",
-        told()
-    );
+    answer.expect(written, told);
 }
 
 /// Holds Open to an outcome, with answers of every length that matters.

@@ -1,27 +1,37 @@
 -- The demands on the library, as theorems over the definitions that the contracts cite.
-use mathlib.Core.Path.{_∙_, _≡_, ap, refl}
+use mathlib.Core.Path.{_∙_, _≡_, ap, refl, subst, sym}
 use mathlib.Core.Logic.{_↔_}
-use mathlib.Core.List.{List, [], _++_, _∷_, map}
-use Prim.Native.Nat.{ℕ}
+use mathlib.Core.List.{List, [], _++_, _∷_, map, List·Memᴰ·not-nil as mem-nil}
+use mathlib.Core.Option.{none}
+use Prim.Native.Nat.{_≤_, min, suc, zero, ℕ}
 use native.Mathlib.Omega.{arith}
-use lib.ListN.{take}
-use lib.Dec.{T}
+use lib.ListN.{drop, length, length-map, length-take, take}
+use lib.Dec.{T, leb, leb→le, le→leb}
+use Rattle.lists.specs.Lists.{both}
 use Rattle.lists.proofs.Distinct.{Distinct}
-use Rattle.lists.proofs.Members.{_∈_, _⊆_}
-use Rattle.graph.specs.Graph.{Graph, isTree}
+use Rattle.lists.proofs.Members.{_∈_, _⊆_, take-out}
+use Rattle.lists.proofs.Orders.{Ascending, ascending-distinct}
+use Rattle.lists.proofs.Tests.{T-both, T-true}
+use Rattle.graph.specs.Graph.{Graph, isTree, width}
 use Rattle.graph.specs.Paths.{isMinimal, pathOf, trees}
 use Rattle.graph.proofs.PathOf.{pathOf-tree}
 use Rattle.graph.proofs.Tree.{minimal-tree, minimal-unique, tree-out}
-use Rattle.graph.proofs.Trees.{trees-distinct, trees-minimal}
-use Rattle.checks.specs.Checks.{Check, Ended, Outcome, checked, ended, refused}
-use Rattle.checks.proofs.Checks.{StopsAt, stops-iff}
-use Rattle.checks.proofs.Ended.{checked-refused, checked-unmet, ended-refused, ended-unmet}
-use Rattle.costs.specs.Costs.{costOf, front}
-use Rattle.network_file.specs.File.{fileChecks, networkOf, openOf}
-use Rattle.network_file.proofs.Accepted.{Accepted}
-use Rattle.operations.specs.Operations.{Fronted, Witnesses, costCall, costChecks, drawnChecks, frontCall, frontChecks, graphIn, orderCall, orderChecks, over, pageCall, pageChecks, pathIn, reachCall, rowsFilled, startChecks}
-use Rattle.pages.specs.Pages.{flat}
+use Rattle.graph.proofs.Trees.{trees-distinct, trees-length, trees-minimal}
+use Rattle.checks.specs.Checks.{Check, Ended, Outcome, answered, checked, ended, firstUnmet, refused}
+use Rattle.checks.proofs.Checks.{StopsAt, firstUnmet-append, firstUnmet-met, met-all, stops-iff}
+use Rattle.checks.proofs.Ended.{checked-refused, checked-unmet, ended-met, ended-refused, ended-unmet}
+use Rattle.costs.specs.Costs.{costOf, front, vectorLess, vectors}
+use Rattle.costs.specs.Network.{Network}
+use Rattle.costs.proofs.Fronts.{Undominated, front-ascending, front-members}
+use Rattle.costs.proofs.Networks.{vectors-sized}
+use Rattle.costs.proofs.Vectors.{vector-order}
+use Rattle.network_file.specs.File.{fileChecks, networkOf, openOf, sizesOf}
+use Rattle.network_file.proofs.Accepted.{Accepted, accepted}
+use Rattle.operations.specs.Operations.{Fronted, Witnesses, capacity, check, costCall, costChecks, drawnChecks, frontCall, frontChecks, graphIn, orderCall, orderChecks, over, pageCall, pageChecks, pathIn, reachCall, rowsFilled, someTree, startChecks}
+use Rattle.pages.specs.Pages.{flat, pieces}
+use Rattle.pages.proofs.Pages.{pieces-flat}
 use Rattle.operations.proofs.Files.{formed}
+use Rattle.operations.proofs.Runs.{Claim, claim}
 use Rattle.operations.proofs.Costs.{cost-same}
 
 -- Demand 1: a fault is refused by the number of the first check not met, and after a refusal every lent buffer is as it was. (That each
@@ -143,4 +153,118 @@ module _ (f : List ℕ) (a : Accepted f) where
     trees-are = λ p m. let t = trees-minimal g (formed f a) p .0 m in (minimal-tree g (formed f a) p t, t);
     once = trees-distinct g;
     each = path-of-tree;
+  }
+
+-- Demand 3
+
+-- The front: exactly the vectors of trees that no tree's vector dominates, ascending, each once.
+pub record FrontIs (f : List ℕ) : Type 0 where
+  pub members : (v : List ℕ) → (v ∈ front (networkOf f)) ↔ ((v ∈ vectors (networkOf f)) × Undominated (vectors (networkOf f)) v)
+  pub ascending : Ascending vectorLess (front (networkOf f))
+  pub once : Distinct (front (networkOf f))
+
+-- Front, with tables that have room for a row: the first vectors of the front, as many as fit, each with a tree of that vector; the rest of
+-- the tables as it was; and the mark says truly whether that is all.
+pub record FrontClaim (f costs witnesses : List ℕ) : Type 0 where
+  pub answer : Fronted
+  pub answers : frontCall f costs witnesses .outcome ≡ answered answer
+  pub count : answer .count ≡ min (length (front (networkOf f))) (capacity f costs witnesses)
+  pub whole : T (answer .whole) ↔ (length (front (networkOf f)) ≤ capacity f costs witnesses)
+  pub rows : pieces (sizesOf f .k) (answer .count) (frontCall f costs witnesses .buffers) ≡ take (answer .count) (front (networkOf f))
+  pub trees-are : (after : List ℕ) → Witnesses f costs witnesses after
+      → map (costOf (networkOf f)) (pieces (width (graphIn f)) (answer .count) after) ≡ take (answer .count) (front (networkOf f))
+  pub listed : (after : List ℕ) → Witnesses f costs witnesses after
+      → (p : List ℕ) → p ∈ pieces (width (graphIn f)) (answer .count) after → p ∈ trees (graphIn f)
+
+-- The run of pages, for every list of calls, and the front beside it.
+pub record Demand3 (f : List ℕ) : Type 0 where
+  pub pages : (pages : List (List ℕ)) → Claim f pages
+  pub is-front : FrontIs f
+  pub fronts : (costs witnesses : List ℕ) → sizesOf f .k ≤ length costs → width (graphIn f) ≤ length witnesses → FrontClaim f costs witnesses
+
+take-own : {A : Type 0} (n : ℕ) (l : List A) → take (length (take n l)) l ≡ take n l
+take-own zero l = refl
+take-own (suc n) [] = refl
+take-own (suc n) (x ∷ l) = ap (λ (m : List _). x ∷ m) (take-own n l)
+
+module _ (f : List ℕ) (ok : firstUnmet (fileChecks f) ≡ none) (tree : T (someTree (trees (graphIn f)))) where
+  abbrev w : Network
+  w = networkOf f
+
+  a : Accepted f
+  a = accepted f ok
+
+  -- all vectors of the front have k components
+  front-sized : (v : List ℕ) → v ∈ front w → length v ≡ sizesOf f .k
+  front-sized v m = vectors-sized w (trees (graphIn f)) v (front-members v (vectors w) .0 m .0) ∙ a .kinds
+
+  module _ (costs witnesses : List ℕ) (wide : sizesOf f .k ≤ length costs) (long : width (graphIn f) ≤ length witnesses) where
+    abbrev cap : ℕ
+    cap = capacity f costs witnesses
+
+    abbrev fronted : Fronted
+    fronted = record { count = min (length (front w)) cap; whole = leb (length (front w)) cap }
+
+    met : firstUnmet (frontChecks f costs witnesses) ≡ none
+    unfolding frontChecks
+    met =
+        firstUnmet-append (fileChecks f) _ ok
+        ∙ firstUnmet-met (check 12 (someTree (trees (graphIn f)))) _ (T-true _ .0 tree)
+        ∙ firstUnmet-met (check 11 (both (leb (sizesOf f .k) (length costs)) (leb (width (graphIn f)) (length witnesses)))) []
+        (T-true _ .0 (T-both (leb (sizesOf f .k) (length costs)) (leb (width (graphIn f)) (length witnesses)) .1 (le→leb _ _ wide, le→leb _ _ long)))
+        ∙ met-all [] .1 (λ c m. absurd (mem-nil m))
+
+    ends : frontCall f costs witnesses ≡ record { outcome = answered fronted; buffers = over (flat (take cap (front w))) costs }
+    unfolding frontCall
+    ends = ended-met (frontChecks f costs witnesses) fronted costs (over (flat (take cap (front w))) costs) met
+
+    abbrev fits : List (List ℕ)
+    fits = take cap (front w)
+
+    -- as many as the count says
+    fits-count : length fits ≡ fronted .count
+    fits-count = length-take cap (front w) ∙ omega arith
+
+    fits-are : fits ≡ take (fronted .count) (front w)
+    fits-are = sym (take-own cap (front w)) ∙ ap (λ (n : ℕ). take n (front w)) fits-count
+
+    vectors-read : pieces (sizesOf f .k) (fronted .count) (over (flat fits) costs) ≡ take (fronted .count) (front w)
+    vectors-read =
+        ap (λ (n : ℕ). pieces (sizesOf f .k) n (over (flat fits) costs)) (sym fits-count)
+        ∙ pieces-flat (sizesOf f .k) fits (drop (length (flat fits)) costs) (λ v m. front-sized v (take-out cap (front w) m)) ∙ fits-are
+
+    -- the witnesses' paths are read back from their table
+    module _ (after : List ℕ) (h : Witnesses f costs witnesses after) where
+      filled : map (costOf w) (h .paths) ≡ take (fronted .count) (front w)
+      filled = h .vectors ∙ ap (λ (e : Ended Fronted (List ℕ)). take (rowsFilled (e .outcome)) (front w)) ends
+
+      paths-count : length (h .paths) ≡ fronted .count
+      paths-count = sym (length-map (h .paths) (costOf w)) ∙ ap length (filled ∙ sym fits-are) ∙ fits-count
+
+      paths-read : pieces (width (graphIn f)) (fronted .count) after ≡ h .paths
+      paths-read =
+          ap (λ (n : ℕ). pieces (width (graphIn f)) n after) (sym paths-count)
+          ∙ ap (pieces (width (graphIn f)) (length (h .paths))) (h .table)
+          ∙ pieces-flat (width (graphIn f)) (h .paths) (drop (length (flat (h .paths))) witnesses) (λ p m. trees-length (graphIn f) p (h .listed p m))
+
+    front-claim : FrontClaim f costs witnesses
+    front-claim = record {
+      answer = fronted;
+      answers = ap (λ (e : Ended Fronted (List ℕ)). e .outcome) ends;
+      count = refl;
+      whole = (leb→le (length (front w)) cap, le→leb (length (front w)) cap);
+      rows = ap (λ (e : Ended Fronted (List ℕ)). pieces (sizesOf f .k) (fronted .count) (e .buffers)) ends ∙ vectors-read;
+      trees-are = λ after h. ap (map (costOf w)) (paths-read after h) ∙ filled after h;
+      listed = λ after h p m. h .listed p (subst (λ (l : List (List ℕ)). p ∈ l) (paths-read after h) m);
+    }
+
+  pub demand-3 : Demand3 f
+  demand-3 = record {
+    pages = claim f ok tree;
+    is-front = record {
+      members = λ v. front-members v (vectors w);
+      ascending = front-ascending (vectors w);
+      once = ascending-distinct vector-order (front w) (front-ascending (vectors w));
+    };
+    fronts = front-claim;
   }

@@ -1,31 +1,110 @@
--- Laws of the calls: places written one after the other, and what Open comes to by its outcome.
-use Prim.Native.Nat.{_<_, _≤_, ℕ}
-use mathlib.Core.Path.{_≡_, _∙_, ap, refl}
+-- Laws of the calls: places written one after the other, and what a call comes to by its outcome.
+use Prim.Native.Nat.{_+_, _<_, _≤_, ℕ}
+use mathlib.Core.Path.{_≡_, _∙_, ap, refl, sym}
+use mathlib.Core.Bool.{and-false}
 use mathlib.Core.List.{List, [], _++_, _∷_}
-use lib.ListN.{length, set}
+use lib.ListN.{getD, length, length-set, length-take, set, take}
+use lib.Seq.{length-take-le, take-all, take-nil, take-suc}
+use native.Mathlib.Numerals.{add-one}
 use native.Mathlib.Omega.{arith}
-use borrow.Author.Tests.{le-ltb}
-use Rattle.checks.specs.Checks.{answered, refused}
-use Rattle.network_file.specs.File.{Sizes, openOf}
-use Rattle.planner_c.specs.Calls.{openCall, written}
+use borrow.Author.Tests.{le-ltb, lt-leb, lt-ltb}
+use Rattle.checks.specs.Checks.{Ended, Outcome, answered, refused}
+use Rattle.operations.specs.Operations.{over, pickCall}
+use Rattle.planner_c.specs.Calls.{answering, answeringBeside, ending, plannerPick}
 
 -- the next place after those that are written
-pub written-next : (values answer : List ℕ) (x : ℕ) → length values < length answer → set (written values answer) (length values) x ≡ written (values ++ (x ∷ [])) answer
-written-next [] [] x h = absurd (omega arith)
-written-next [] (y ∷ answer) x h = refl
-written-next (v ∷ values) [] x h = absurd (omega arith)
-written-next (v ∷ values) (y ∷ answer) x h = ap (λ l. v ∷ l) (written-next values answer x (omega arith))
+pub over-next : (values answer : List ℕ) (x : ℕ) → length values < length answer → set (over values answer) (length values) x ≡ over (values ++ (x ∷ [])) answer
+over-next [] [] x h = absurd (omega arith)
+over-next [] (y ∷ answer) x h = refl
+over-next (v ∷ values) [] x h = absurd (omega arith)
+over-next (v ∷ values) (y ∷ answer) x h = ap (λ l. v ∷ l) (over-next values answer x (omega arith))
 
-pub written-three : (answer : List ℕ) (x y z : ℕ) → 3 ≤ length answer → set (set (set answer 0 x) 1 y) 2 z ≡ written (x ∷ y ∷ z ∷ []) answer
-written-three answer x y z enough =
-    ap (λ l. set (set l 1 y) 2 z) (written-next [] answer x (omega arith))
-    ∙ ap (λ l. set l 2 z) (written-next (x ∷ []) answer y (omega arith))
-    ∙ written-next (x ∷ y ∷ []) answer z (omega arith)
+pub over-two : (answer : List ℕ) (x y : ℕ) → 2 ≤ length answer → set (set answer 0 x) 1 y ≡ over (x ∷ y ∷ []) answer
+over-two answer x y enough = ap (λ l. set l 1 y) (over-next [] answer x (omega arith)) ∙ over-next (x ∷ []) answer y (omega arith)
 
-pub open-refused : (file answer : List ℕ) (number code : ℕ) → 3 ≤ length answer → openOf file ≡ refused number → code ≡ number → record { code = code; buffers = answer } ≡ openCall file answer
-unfolding openCall
-open-refused file answer number code enough outcome same = simp (le-ltb _ _ enough, outcome, same)
+pub over-three : (answer : List ℕ) (x y z : ℕ) → 3 ≤ length answer → set (set (set answer 0 x) 1 y) 2 z ≡ over (x ∷ y ∷ z ∷ []) answer
+over-three answer x y z enough = ap (λ l. set l 2 z) (over-two answer x y (omega arith)) ∙ over-next (x ∷ y ∷ []) answer z (omega arith)
 
-pub open-answered : (file answer : List ℕ) (s : Sizes) → 3 ≤ length answer → openOf file ≡ answered s → record { code = 0; buffers = set (set (set answer 0 (s .n)) 1 (s .m)) 2 (s .k) } ≡ openCall file answer
-unfolding openCall
-open-answered file answer s enough outcome = simp (le-ltb _ _ enough, outcome, written-three answer (s .n) (s .m) (s .k) enough)
+-- a part that is being copied: the first i places are there
+pub record Copied (part before out : List ℕ) (i : ℕ) : Type 0 where
+  pub some : i ≤ length part
+  pub fits : i ≤ length before
+  pub same : length out ≡ length before
+  pub holds : out ≡ over (take i part) before
+
+pub copy-next : (part out : List ℕ) (i : ℕ) → i < length part → i < length out → set (over (take i part) out) i (getD part i 0) ≡ over (take (i + 1) part) out
+copy-next part out i some fits =
+    ap (λ k. set (over (take i part) out) k (getD part i 0)) (sym (length-take-le i part (omega arith)))
+    ∙ over-next (take i part) out (getD part i 0) (simp length-take (omega arith))
+    ∙ ap (λ l. over l out) (sym (take-suc part i 0 some) ∙ ap (λ k. take k part) (sym (add-one i)))
+
+-- a place more
+pub copied-next : (part before out : List ℕ) (i : ℕ) → Copied part before out i → i < length part → i < length out → Copied part before (set out i (getD part i 0)) (i + 1)
+copied-next part before out i c some fits =
+    record {
+      some = omega arith;
+      fits = omega (arith, c .same);
+      same = length-set out i _ ∙ c .same;
+      holds = ap (λ l. set l i (getD part i 0)) (c .holds) ∙ copy-next part before i some (omega (arith, c .same));
+    }
+
+-- all that fits
+pub copied-full : (part before out : List ℕ) (i : ℕ) → Copied part before out i → length out ≤ i → out ≡ over (take (length before) part) before
+copied-full part before out i c full =
+    let last : i ≡ length before = omega (arith, c .same, c .fits) in
+    c .holds ∙ ap (λ k. over (take k part) before) last
+
+-- all of the part
+pub copied-whole : (part before out : List ℕ) (i : ℕ) → Copied part before out i → length part ≤ i → out ≡ over (take (length before) part) before
+copied-whole part before out i c whole =
+    c .holds ∙ ap (λ l. over l before) (take-all i part whole ∙ sym (take-all (length before) part (omega (arith, c .fits))))
+
+-- no node number of 256 or more is in range
+pub pick-none : (n : ℕ) (page : List ℕ) (t : ℕ) (out : List ℕ) → 255 < n → record { code = 0; buffers = out } ≡ plannerPick n page t out
+unfolding plannerPick pickCall
+pick-none n page t out high = simp (lt-leb n 32 (omega arith), and-false, take-nil)
+
+pub pick-copied : (n : ℕ) (page : List ℕ) (t : ℕ) (out part after : List ℕ) → part ≡ pickCall n page t → after ≡ over (take (length out) part) out → record { code = length part; buffers = after } ≡ plannerPick n page t out
+unfolding plannerPick
+pick-copied n page t out part after same copied = rw (copied, same)
+
+module _ {A : Type 0} (values : A → List ℕ) (outcome : Outcome A) (answer : List ℕ) where
+  pub answering-short : (places : ℕ) → length answer < places → record { code = 255; buffers = answer } ≡ answering places values outcome answer
+  unfolding answering
+  answering-short places few = simp (lt-ltb _ _ few)
+
+  pub answering-refused : (places number : ℕ) → places ≤ length answer → outcome ≡ refused number → record { code = number; buffers = answer } ≡ answering places values outcome answer
+  unfolding answering
+  answering-refused places number enough told = simp (le-ltb _ _ enough, told)
+
+  pub answering-two : (a : A) (x y : ℕ) → 2 ≤ length answer → outcome ≡ answered a → values a ≡ x ∷ y ∷ [] → record { code = 0; buffers = set (set answer 0 x) 1 y } ≡ answering 2 values outcome answer
+  unfolding answering
+  answering-two a x y enough told same = simp (le-ltb _ _ enough, told, same, over-two answer x y enough)
+
+  pub answering-three : (a : A) (x y z : ℕ) → 3 ≤ length answer → outcome ≡ answered a → values a ≡ x ∷ y ∷ z ∷ [] → record { code = 0; buffers = set (set (set answer 0 x) 1 y) 2 z } ≡ answering 3 values outcome answer
+  unfolding answering
+  answering-three a x y z enough told same = simp (le-ltb _ _ enough, told, same, over-three answer x y z enough)
+
+-- a call that ends so, by its outcome
+module _ {A B : Type 0} (e : Ended A B) (outcome : Outcome A) (after : B) (ends : record { outcome = outcome; buffers = after } ≡ e) where
+  pub ending-refused : (number : ℕ) → outcome ≡ refused number → record { code = number; buffers = after } ≡ ending e
+  unfolding ending
+  ending-refused number told = rw (← ends) (simp told)
+
+  pub ending-answered : (a : A) → outcome ≡ answered a → record { code = 0; buffers = after } ≡ ending e
+  unfolding ending
+  ending-answered a told = rw (← ends) (simp told)
+
+module _ {A : Type 0} (values : A → List ℕ) (e : Ended A (List ℕ)) (table answer : List ℕ) where
+  pub beside-short : (places : ℕ) → length answer < places → record { code = 255; buffers = record { table = table; answer = answer } } ≡ answeringBeside places values e table answer
+  unfolding answeringBeside
+  beside-short places few = simp (lt-ltb _ _ few)
+
+  module _ (outcome : Outcome A) (after : List ℕ) (ends : record { outcome = outcome; buffers = after } ≡ e) where
+    pub beside-refused : (places number : ℕ) → places ≤ length answer → outcome ≡ refused number → record { code = number; buffers = record { table = after; answer = answer } } ≡ answeringBeside places values e table answer
+    unfolding answeringBeside
+    beside-refused places number enough told = rw (← ends) (simp (le-ltb _ _ enough, told))
+
+    pub beside-two : (a : A) (x y : ℕ) → 2 ≤ length answer → outcome ≡ answered a → values a ≡ x ∷ y ∷ [] → record { code = 0; buffers = record { table = after; answer = set (set answer 0 x) 1 y } } ≡ answeringBeside 2 values e table answer
+    unfolding answeringBeside
+    beside-two a x y enough told same = rw (← ends) (simp (le-ltb _ _ enough, told, same, over-two answer x y enough))

@@ -1,14 +1,16 @@
--- What a call from Rust or C comes to. It returns a number, its code: 255 where the answer buffer is too short, before any
--- check; else the number of the refusal, with every buffer as it was; else 0, with the answer's values in the first places.
-use mathlib.Core.List.{List, [], _++_, _∷_}
-use Prim.Native.Nat.{ℕ}
+-- What a call from Rust or C comes to: the number that it returns, and what each lent buffer holds afterwards.
+-- But for Pick the number is a code: 255 where the answer buffer is too short, before any check; else the number of the
+-- refusal, with every buffer as it was; else 0, with the answer's values in the first places.
+use mathlib.Core.Bool.{Bool, false, true}
+use mathlib.Core.List.{List, [], _∷_}
+use Prim.Native.Nat.{min, ℕ}
 use lib.Dec.{ltb}
-use lib.ListN.{drop, length}
+use lib.ListN.{length, take}
 use Rattle.lists.specs.Lists.{pick}
-use Rattle.checks.specs.Checks.{Outcome, answered, refused}
+use Rattle.checks.specs.Checks.{Ended, Outcome, answered, refused}
 use Rattle.network_file.specs.File.{Sizes, openOf}
+use Rattle.operations.specs.Operations.{Paged, Reached, costCall, orderCall, over, pageCall, pickCall, reachCall}
 
--- the code, and what each lent buffer holds afterwards
 pub record Called (B : Type 0) : Type 0 where
   pub code : ℕ
   pub buffers : B
@@ -21,19 +23,70 @@ abbrev pub codeOf : {A : Type 0} → Outcome A → ℕ
 codeOf (refused number) = number
 codeOf (answered a) = 0
 
--- the values in the first places; the others keep theirs
-abbrev pub written : List ℕ → List ℕ → List ℕ
-written values answer = values ++ drop (length values) answer
-
--- the answer buffer afterwards
+-- the answer buffer afterwards: the values in the first places
 abbrev pub answerAfter : {A : Type 0} → (A → List ℕ) → Outcome A → List ℕ → List ℕ
 answerAfter values (refused number) answer = answer
-answerAfter values (answered a) answer = written (values a) answer
+answerAfter values (answered a) answer = over (values a) answer
+
+-- a call that is lent nothing but its answer buffer
+unfoldable pub answering : {A : Type 0} → ℕ → (A → List ℕ) → Outcome A → List ℕ → Called (List ℕ)
+answering places values outcome answer =
+    withPlaces places answer answer (record { code = codeOf outcome; buffers = answerAfter values outcome answer })
+
+-- a call that is lent a buffer and has no answer buffer
+unfoldable pub ending : {A B : Type 0} → Ended A B → Called B
+ending e = record { code = codeOf (e .outcome); buffers = e .buffers }
+
+-- what two buffers hold
+pub record Both : Type 0 where
+  pub table : List ℕ
+  pub answer : List ℕ
+
+-- a call that is lent a buffer, and an answer buffer
+unfoldable pub answeringBeside : {A : Type 0} → ℕ → (A → List ℕ) → Ended A (List ℕ) → List ℕ → List ℕ → Called Both
+answeringBeside places values e table answer =
+    withPlaces places answer (record { table = table; answer = answer })
+    (record { code = codeOf (e .outcome); buffers = record { table = e .buffers; answer = answerAfter values (e .outcome) answer } })
+
+-- a count in a place of 32 bits: it holds at the greatest number there is
+abbrev pub held : ℕ → ℕ
+held count = min count 4294967295
+
+abbrev pub digit : Bool → ℕ
+digit false = 0
+digit true = 1
 
 abbrev pub sizeValues : Sizes → List ℕ
 sizeValues s = s .n ∷ s .m ∷ s .k ∷ []
 
--- Open: n, m and k in the first three places.
-unfoldable pub openCall : List ℕ → List ℕ → Called (List ℕ)
-openCall file answer =
-    withPlaces 3 answer answer (record { code = codeOf (openOf file); buffers = answerAfter sizeValues (openOf file) answer })
+abbrev pub reachedValues : Reached → List ℕ
+reachedValues r = r .word ∷ r .size ∷ []
+
+abbrev pub pagedValues : Paged → List ℕ
+pagedValues p = held (p .count) ∷ digit (p .more) ∷ []
+
+-- Open: n, m and k.
+unfoldable pub plannerOpen : List ℕ → List ℕ → Called (List ℕ)
+plannerOpen file answer = answering 3 sizeValues (openOf file) answer
+
+-- Reach: the word and the size.
+unfoldable pub plannerReach : List ℕ → List ℕ → Called (List ℕ)
+plannerReach file answer = answering 2 reachedValues (reachCall file) answer
+
+-- Order: the path stands in the buffer.
+unfoldable pub plannerOrder : List ℕ → List ℕ → List ℕ → Called (List ℕ)
+plannerOrder file rows buffer = ending (orderCall file rows buffer)
+
+-- Cost: the vector stands in the buffer.
+unfoldable pub plannerCost : List ℕ → List ℕ → List ℕ → Called (List ℕ)
+plannerCost file rows buffer = ending (costCall file rows buffer)
+
+-- Pick: it returns the length of the part, of which as much as fits stands in the first places.
+unfoldable pub plannerPick : ℕ → List ℕ → ℕ → List ℕ → Called (List ℕ)
+plannerPick n page t out =
+    let part = pickCall n page t in
+    record { code = length part; buffers = over (take (length out) part) out }
+
+-- Page: the count, and the mark, 1 for 'more'.
+unfoldable pub plannerPage : List ℕ → List ℕ → List ℕ → List ℕ → Called Both
+plannerPage file page start answer = answeringBeside 2 pagedValues (pageCall file page start) page answer

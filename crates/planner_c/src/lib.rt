@@ -1,34 +1,143 @@
 //! The library's functions for Rust and C: the Rust tests in tests/ call them. A slice passes as a pointer and a length.
 //! What each call returns and leaves in its buffers stands in specs/Calls.antt.
+use cost::Costed;
 use network::Opened;
+use order::Ordered;
+use page::PageAnswer;
+use reach::ReachAnswer;
 ghost use mathlib.Core.Path.{_≡_};
-ghost use Rattle.network.specs.Answers.{openedOf};
-ghost use Rattle.planner_c.specs.Calls.{codeOf, openCall};
-
-fn code_of(opened: Opened) -> u32
-    ensures { λ r. ⌜ r ≡ codeOf (openedOf opened) ⌝ }
-{
-    match opened {
-        Opened::Header(_) => 0,
-        Opened::Refused(number) => number as u32,
-    }
-}
+ghost use lib.ListN.{length, take};
+ghost use Rattle.operations.specs.Operations.{over};
+ghost use Rattle.planner_c.specs.Calls.{digit, held, plannerCost, plannerOpen, plannerOrder, plannerPage, plannerPick, plannerReach};
 
 /// Open: 0 with n, m and k in the first three places of the answer; the refusal's number; or 255 where the answer has
 /// under three places.
 #[no_mangle]
 pub extern "C" fn planner_open(file: &[u8], answer: &mut [u32]) -> u32
-    ensures { λ r. ⌜ record { code = r; buffers = now (answer .exit) } ≡ openCall (now (file .entry)) (now (answer .entry)) ⌝ }
+    ensures { λ r. ⌜ record { code = r; buffers = now (answer .exit) } ≡ plannerOpen (now (file .entry)) (now (answer .entry)) ⌝ }
 {
     if answer.len() < 3 {
         return 255;
     }
     let opened = network::open(file);
-    let Opened::Header(header) = opened else {
-        return code_of(opened);
-    };
-    answer[0] = header.n as u32;
-    answer[1] = header.m as u32;
-    answer[2] = header.k as u32;
-    0
+    match opened {
+        Opened::Header(header) => {
+            answer[0] = header.n as u32;
+            answer[1] = header.m as u32;
+            answer[2] = header.k as u32;
+            0
+        }
+        Opened::Refused(number) => number as u32,
+    }
+}
+
+/// Reach: 0 with the word and the size in the first two places of the answer; the refusal's number; or 255 where the
+/// answer has under two places.
+#[no_mangle]
+pub extern "C" fn planner_reach(file: &[u8], answer: &mut [u32]) -> u32
+    ensures { λ r. ⌜ record { code = r; buffers = now (answer .exit) } ≡ plannerReach (now (file .entry)) (now (answer .entry)) ⌝ }
+{
+    if answer.len() < 2 {
+        return 255;
+    }
+    let reached = reach::reach(file);
+    match reached {
+        ReachAnswer::Set { word, size } => {
+            answer[0] = word;
+            answer[1] = size;
+            0
+        }
+        ReachAnswer::Refused(number) => number as u32,
+    }
+}
+
+/// Order: 0 with the path in the first n - 1 places of the buffer, or the refusal's number.
+#[no_mangle]
+pub extern "C" fn planner_order(file: &[u8], rows: &[u16], buffer: &mut [u16]) -> u32
+    ensures { λ r. ⌜ record { code = r; buffers = now (buffer .exit) } ≡ plannerOrder (now (file .entry)) (now (rows .entry)) (now (buffer .entry)) ⌝ }
+{
+    let ordered = order::order(file, rows, buffer);
+    match ordered {
+        Ordered::Path => 0,
+        Ordered::Refused(number) => number as u32,
+    }
+}
+
+/// Cost: 0 with the vector in the first k places of the buffer, or the refusal's number.
+#[no_mangle]
+pub extern "C" fn planner_cost(file: &[u8], rows: &[u16], buffer: &mut [u32]) -> u32
+    ensures { λ r. ⌜ record { code = r; buffers = now (buffer .exit) } ≡ plannerCost (now (file .entry)) (now (rows .entry)) (now (buffer .entry)) ⌝ }
+{
+    let costed = cost::cost(file, rows, buffer);
+    match costed {
+        Costed::Vector => 0,
+        Costed::Refused(number) => number as u32,
+    }
+}
+
+// As much of the part as fits, in the first places.
+fn copy(part: &[u16], out: &mut [u16])
+    ensures { λ r. ⌜ now (out .exit) ≡ over (take (length (now (out .entry))) (now (part .entry))) (now (out .entry)) ⌝ }
+{
+    let mut i: usize = 0;
+    while i < out.len() && i < part.len() {
+        out[i] = part[i];
+        i += 1;
+    }
+}
+
+/// Pick: the length of tree t's part of the page, of which as much as fits is copied to the first places of out.
+#[no_mangle]
+pub extern "C" fn planner_pick(n: u32, page: &[u16], t: u64, out: &mut [u16]) -> u64
+    ensures { λ r. ⌜ record { code = r; buffers = now (out .exit) } ≡ plannerPick n (now (page .entry)) t (now (out .entry)) ⌝ }
+{
+    // no byte holds it, and it is out of range
+    if 255 < n {
+        return 0;
+    }
+    let part = pick::pick(n as u8, page, t as usize);
+    copy(part, out);
+    part.len() as u64
+}
+
+// A count in a place of 32 bits: it holds at the greatest number there is.
+fn held_count(count: usize) -> u32
+    ensures { λ r. ⌜ r ≡ held count ⌝ }
+{
+    if count < 4294967295 {
+        count as u32
+    } else {
+        4294967295
+    }
+}
+
+fn digit_of(mark: bool) -> u32
+    ensures { λ r. ⌜ r ≡ digit mark ⌝ }
+{
+    if mark { 1 } else { 0 }
+}
+
+/// Page: 0 with the count and the mark, 1 for 'more', in the first two places of the answer; the refusal's number; or
+/// 255 where the answer has under two places.
+#[no_mangle]
+pub extern "C" fn planner_page(
+    file: &[u8],
+    page: &mut [u16],
+    start: &[u16],
+    answer: &mut [u32],
+) -> u32
+    ensures { λ r. ⌜ record { code = r; buffers = record { table = now (page .exit); answer = now (answer .exit) } } ≡ plannerPage (now (file .entry)) (now (page .entry)) (now (start .entry)) (now (answer .entry)) ⌝ }
+{
+    if answer.len() < 2 {
+        return 255;
+    }
+    let paged = page::page(file, page, start);
+    match paged {
+        PageAnswer::Trees { count, more } => {
+            answer[0] = held_count(count);
+            answer[1] = digit_of(more);
+            0
+        }
+        PageAnswer::Refused(number) => number as u32,
+    }
 }

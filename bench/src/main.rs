@@ -1,0 +1,157 @@
+//! Measures the proved library beside plain Rust, both built for release, in one run, and prints a table. It tests nothing
+//! but that both list the same trees.
+
+mod networks;
+mod walk;
+
+use std::hint::black_box;
+use std::time::{Duration, Instant};
+
+use planner_tests::ffi;
+use planner_tests::file::Network;
+
+use walk::Graph;
+
+/// The trees of a page, as treelist has them.
+const TREES_A_PAGE: usize = 64;
+
+/// The library's list, page by page.
+fn library_pages(network: &Network, show: &mut impl FnMut(&[u16])) {
+    let file = network.encode();
+    let width = network.width();
+    let mut page = vec![0; TREES_A_PAGE * width];
+    let mut start: Vec<u16> = Vec::new();
+    loop {
+        let mut answer = [0; 2];
+        assert_eq!(ffi::page(&file, &mut page, &start, &mut answer), 0);
+        let filled = answer[0] as usize * width;
+        show(&page[..filled]);
+        if answer[1] == 0 {
+            return;
+        }
+        start.clear();
+        start.extend(&page[filled - width..filled]);
+    }
+}
+
+/// The plain walk's list, page by page.
+fn plain_pages(network: &Network, show: &mut impl FnMut(&[u16])) {
+    let graph = Graph::new(network);
+    let width = graph.width;
+    let mut page = vec![0; TREES_A_PAGE * width];
+    let mut filled = 0;
+    graph.walk(&mut |tree| {
+        if filled == page.len() {
+            show(&page);
+            filled = 0;
+        }
+        page[filled..filled + width].copy_from_slice(tree);
+        filled += width;
+    });
+    show(&page[..filled]);
+}
+
+/// How many rows a list has, and a number that another list does not have by chance.
+fn digest(pages: impl Fn(&mut dyn FnMut(&[u16]))) -> (usize, u64) {
+    let mut rows = 0;
+    let mut sum = 0u64;
+    pages(&mut |page| {
+        rows += page.len();
+        for &row in page {
+            sum = sum
+                .wrapping_mul(0x9e37_79b9_7f4a_7c15)
+                .wrapping_add(row as u64 + 1);
+        }
+    });
+    (rows, sum)
+}
+
+/// The shortest of several times that each of the two takes, one after the other.
+fn shortest(mut first: impl FnMut(), mut second: impl FnMut()) -> [Duration; 2] {
+    let mut best = [Duration::MAX; 2];
+    let begun = Instant::now();
+    while begun.elapsed() < Duration::from_millis(1_500) {
+        for (best, work) in best
+            .iter_mut()
+            .zip([&mut first as &mut dyn FnMut(), &mut second])
+        {
+            let start = Instant::now();
+            work();
+            *best = start.elapsed().min(*best);
+        }
+    }
+    best
+}
+
+/// Keeps the compiler from leaving out a page that nobody reads.
+fn use_page(page: &[u16]) {
+    black_box(page);
+}
+
+fn compare_lists(name: &str, network: &Network) {
+    let library = digest(|show| library_pages(network, &mut |page| show(page)));
+    let plain = digest(|show| plain_pages(network, &mut |page| show(page)));
+    assert_eq!(library, plain, "{name}: not the same list");
+    let trees = library.0 / network.width();
+    let [ours, theirs] = shortest(
+        || library_pages(network, &mut |page| use_page(page)),
+        || plain_pages(network, &mut |page| use_page(page)),
+    );
+    print_ratio(name, trees, ours, theirs);
+}
+
+fn print_ratio(name: &str, trees: usize, ours: Duration, theirs: Duration) {
+    let each = |time: Duration| time.as_secs_f64() * 1e9 / trees as f64;
+    let ratio = ours.as_secs_f64() / theirs.as_secs_f64();
+    println!(
+        "{name:36} {trees:9} {:12.1} {:12.1} {ratio:8.2}",
+        each(ours),
+        each(theirs)
+    );
+}
+
+/// The first page of a network on which the plain walk would not end.
+fn first_page(name: &str, network: &Network) {
+    let file = network.encode();
+    let mut page = vec![0; TREES_A_PAGE * network.width()];
+    let mut answer = [0; 2];
+    let mut times = Vec::new();
+    for _ in 0..50 {
+        let start = Instant::now();
+        assert_eq!(ffi::page(&file, &mut page, &[], &mut answer), 0);
+        times.push(start.elapsed());
+        black_box(&page);
+    }
+    times.sort();
+    let ms = |time: Duration| time.as_secs_f64() * 1e3;
+    println!(
+        "{name:36} {:9} {:12.3} {:12.3}",
+        answer[0],
+        ms(times[25]),
+        ms(times[49])
+    );
+}
+
+fn main() {
+    println!("Page: the whole list in pages of {TREES_A_PAGE} trees, nanoseconds a tree");
+    println!(
+        "{:36} {:>9} {:>12} {:>12} {:>8}",
+        "", "trees", "library", "plain Rust", "ratio"
+    );
+    compare_lists("complete graph of 7 nodes", &networks::complete(7, &[0]));
+    compare_lists("complete graph of 8 nodes", &networks::complete(8, &[0]));
+    compare_lists(
+        "random, 10 nodes and 25 rows",
+        &networks::random(10, 25, &[0]),
+    );
+    compare_lists("ladder of 12 nodes", &networks::ladder(12, &[0]));
+    println!();
+    println!("Page: the first page, milliseconds a call (plain Rust does not look ahead and would not end)");
+    println!(
+        "{:36} {:>9} {:>12} {:>12}",
+        "", "trees", "half of 50", "slowest"
+    );
+    first_page("star of 32 nodes, plant at the rim", &networks::star(32));
+    first_page("line of 32 nodes by 8 rows each", &networks::line(32, 8));
+    first_page("grid of 5 by 6 nodes", &networks::grid(5, 6, &[0]));
+}

@@ -1,0 +1,130 @@
+-- What `drawn` comes to by Open's answer (`open-stops`, `tried-drawn`), and what its callers learn from its number: the first check that
+-- is not met (`refused-by`), or that all are met and the path is the tree's (`answered-by`).
+use mathlib.Core.Path.{_∙_, _≡_, ap, refl, subst, sym}
+use mathlib.Core.Option.{Option, none, some}
+use mathlib.Core.List.{List, _++_, map, List·Memᴰ·head as here, List·Memᴰ·tail as there, Memᴰ·append-right as append-right}
+use Prim.Native.Nat.{_-_, _≤_, pred, ℕ}
+use native.Mathlib.Omega.{arith}
+use lib.Dec.{T, eqb, ltb, ltb→lt}
+use lib.ListN.{length, length-map, take}
+use borrow.Author.Tests.{eq-eqb, eqb-true, ne-eqb}
+use Rattle.lists.specs.Lists.{all}
+use Rattle.lists.proofs.Members.{_∈_, all-out}
+use Rattle.lists.proofs.Tests.{T-true}
+use Rattle.graph.specs.Graph.{isTree, width}
+use Rattle.graph.specs.Paths.{Key, pathOf}
+use Rattle.graph.proofs.Minimal.{minimal-parts}
+use Rattle.graph.proofs.PathOf.{pathOf-tree}
+use Rattle.checks.specs.Checks.{Check, answered, checked, firstUnmet, outcomeBy, refused}
+use Rattle.checks.proofs.Checks.{firstUnmet-append, met-all, stops-iff}
+use Rattle.checks.proofs.Ended.{checked-refused, checked-unmet, firstUnmet-stops, unmet-parts}
+use Rattle.network_file.specs.File.{Sizes, fileChecks, networkOf, openOf, sizesOf}
+use Rattle.network_file.proofs.Accepted.{Accepted, accepted}
+use Rattle.operations.specs.Operations.{check, drawnChecks, graphIn, pathIn}
+use Rattle.operations.proofs.Files.{formed, node-count}
+use Rattle.ends.specs.Ends.{endsBy, nodesWord}
+use Rattle.ends.proofs.Ends.{first-part, nodes-graph, nodes-has, second-part}
+use Rattle.paths.specs.Path.{keysOf}
+use Rattle.drawn.specs.Answers.{drawnCall, drawnOf}
+use Rattle.drawn.specs.Tried.{triedOf}
+use Rattle.drawn.specs.declared.DrawnAnswer.{DrawnAnswer}
+use Rattle.drawn.proofs.Trees.{Fits, tried-checks}
+
+-- an answer has met all its checks
+pub checked-answered : {A : Type 0} (cs : List Check) (a : A) {b : A} → checked cs a ≡ answered b → (firstUnmet cs ≡ none) × (a ≡ b)
+unfolding checked
+checked-answered {A} cs a {b} = by (firstUnmet cs)
+  where
+    by : (o : Option ℕ) → outcomeBy o a ≡ answered b → (o ≡ none) × (a ≡ b)
+    by none h = (refl, cc)
+    by (some e) h = let z : _≡_ {A = ℕ} 0 1 = cc in absurd (omega arith)
+
+-- By Open's answer
+
+abbrev pub drawnTable : List ℕ → List ℕ → List Check
+drawnTable f rows = fileChecks f ++ drawnChecks (graphIn f) rows
+
+-- Open's refusals are numbered from 1
+numbered : (f : List ℕ) (e : ℕ) → firstUnmet (fileChecks f) ≡ some e → ¬ (e ≡ 0)
+unfolding fileChecks all
+numbered f e h z =
+    let s = stops-iff (fileChecks f) e .0 h in
+    let listed : s .stop ∈ fileChecks f = subst (λ (cs : List Check). s .stop ∈ cs) (sym (s .parts)) (append-right (s .before) (here refl)) in
+    let from-one : T (all (λ c. ltb 0 (c .number)) (fileChecks f)) = tt in
+    omega (arith, ltb→lt 0 (s .stop .number) (all-out (λ c. ltb 0 (c .number)) from-one listed), s .numbered)
+
+pub open-stops : (f rows : List ℕ) (e : ℕ) → openOf f ≡ refused e → (drawnCall f rows ≡ refused e) × (¬ (e ≡ 0))
+unfolding openOf drawnCall
+open-stops f rows e h =
+    let stop = checked-refused (fileChecks f) (sizesOf f) e h in
+    (checked-unmet (drawnTable f rows) _ e (firstUnmet-stops (fileChecks f) (drawnChecks (graphIn f) rows) e stop), numbered f e stop)
+
+pub file-fits : (f : List ℕ) → Accepted f → Fits (graphIn f) (sizesOf f .n) (nodesWord (sizesOf f .n))
+file-fits f a = record {
+  formed = formed f a;
+  low = λ v m. nodes-has (sizesOf f .n) v (omega (arith, a .nodes-high)) .0 (nodes-graph f a v .1 m) .1;
+  small = a .nodes-high;
+  word = nodes-graph f a;
+  room = omega (arith, node-count f, a .nodes-high);
+  few = omega (arith, length-map (networkOf f .rows) (λ r. r .firstEnd), a .rows, a .rows-high);
+}
+
+module _ (f : List ℕ) (s : Sizes) (h : openOf f ≡ answered s) where
+  met : (firstUnmet (fileChecks f) ≡ none) × (sizesOf f ≡ s)
+  unfolding openOf
+  met = checked-answered (fileChecks f) (sizesOf f) h
+
+  pub opened : (2 ≤ s .n) × (s .m ≤ 256)
+  opened = let a = accepted f (met .0) in subst (λ (s : Sizes). (2 ≤ s .n) × (s .m ≤ 256)) (met .1) (a .nodes-low, a .rows-high)
+
+  -- the code passes what Open answers
+  pub tried-drawn : (rows : List ℕ)
+      → triedOf (take (s .m) (endsBy (λ row. row .firstEnd) f)) (take (s .m) (endsBy (λ row. row .secondEnd) f)) (s .n) 1 (nodesWord (s .n)) (s .n - 1) rows
+      ≡ drawnCall f rows
+  unfolding drawnCall checked
+  tried-drawn rows =
+      let a = accepted f (met .0) in
+      let wide : sizesOf f .n - 1 ≡ pred (length (graphIn f .nodes)) = omega (arith, node-count f) in
+      let behind = firstUnmet-append (fileChecks f) (drawnChecks (graphIn f) rows) (met .0) in
+      rw (← (met .1), first-part f a, second-part f a, wide)
+      (tried-checks (file-fits f a) rows ∙ ap (λ (o : Option ℕ). outcomeBy o (pathIn (pathOf (graphIn f) rows))) (sym behind))
+
+-- By the code's answer
+
+-- the rows meet all checks, and ps is the minimal path with exactly these rows
+pub record Passed (f rows ps : List ℕ) : Type 0 where
+  pub met : firstUnmet (drawnTable f rows) ≡ none
+  pub file : Accepted f
+  pub size : length rows ≡ width (graphIn f)
+  pub tree : T (isTree (graphIn f) rows)
+  pub path : pathOf (graphIn f) rows ≡ some ps
+  pub long : length ps ≡ width (graphIn f)
+
+module _ (f rows : List ℕ) where
+  passed : (ps : List ℕ) → drawnCall f rows ≡ answered ps → Passed f rows ps
+  unfolding drawnCall drawnChecks
+  passed ps h =
+      let (met, same) = checked-answered (drawnTable f rows) _ h in
+      let (of-file, behind) = unmet-parts (fileChecks f) (drawnChecks (graphIn f) rows) met in
+      let each = met-all (drawnChecks (graphIn f) rows) .0 behind in
+      let file = accepted f of-file in
+      let tree = T-true (isTree (graphIn f) rows) .1 (each (check 10 (isTree (graphIn f) rows)) (there (there (here refl)))) in
+      let (qs, found, minimal, _, _) = pathOf-tree (graphIn f) (formed f file) rows tree in
+      let count : length qs ≡ pred (length (graphIn f .nodes)) = omega (arith, minimal-parts (graphIn f) qs minimal .0) in
+      let e : qs ≡ ps = sym (ap pathIn found) ∙ same in
+      record {
+        met = met;
+        file = file;
+        size = eqb-true _ _ (each (check 8 (eqb (length rows) (width (graphIn f)))) (here refl));
+        tree = tree;
+        path = found ∙ ap some e;
+        long = sym (ap length e) ∙ count;
+      }
+
+  module _ (d : DrawnAnswer) (asked : drawnOf d ≡ drawnCall f rows) where
+    pub refused-by : ¬ (d .number ≡ 0) → firstUnmet (drawnTable f rows) ≡ some (d .number)
+    unfolding drawnCall
+    refused-by n = checked-refused (drawnTable f rows) _ (d .number) (sym asked ∙ (rw (ne-eqb _ _ n)))
+
+    pub answered-by : d .number ≡ 0 → Passed f rows (map (λ (k : Key). k .row) (keysOf (d .path)))
+    answered-by z = passed _ (sym asked ∙ (rw (eq-eqb _ _ z)))

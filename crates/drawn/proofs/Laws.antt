@@ -1,0 +1,117 @@
+-- Laws for the code: a test over rows one after the other, the ends of one row more, and what trying rows comes to, check by check.
+use mathlib.Core.Path.{_∙_, _≡_, ap, sym}
+use mathlib.Core.Logic.{⊎-elim}
+use mathlib.Core.Bool.{Bool, false, true}
+use mathlib.Core.List.{List, [], _++_, _∷_, map}
+use Prim.Native.Nat.{_+_, _<_, _≤_, ℕ}
+use native.Mathlib.Decide.{ℕ-discrete}
+use native.Mathlib.Numerals.{add-one}
+use native.Mathlib.Omega.{arith}
+use lib.Dec.{ltb}
+use lib.ListN.{drop, drop-of-length-le, getD, length, length-set, length-take, set, take}
+use lib.Seq.{drop-cons, ext-getD, getD-set-other, getD-set-same, getD-take, take-suc}
+use borrow.Author.Tests.{eq-eqb, ne-eqb}
+use Rattle.lists.specs.Lists.{all, any, both, member, pick, range}
+use Rattle.lists.proofs.Members.{member-in, member-out, snoc-new, snoc-old, snoc-out}
+use Rattle.lists.proofs.Tests.{T-same, pick-true}
+use Rattle.graph.specs.Paths.{Key}
+use Rattle.checks.specs.Checks.{Outcome, answered, checked, firstUnmet, refused}
+use Rattle.drawn.specs.Answers.{drawnOf}
+use Rattle.drawn.specs.Only.{onlyEnds}
+use Rattle.drawn.specs.Tried.{drawnKeys, triedOf}
+use Rattle.drawn.specs.declared.DrawnAnswer.{DrawnAnswer}
+use Rattle.drawn.proofs.Only.{only-at, only-length}
+
+-- a test of the rows from i on
+
+module _ (p : ℕ → Bool) (l : List ℕ) (i : ℕ) where
+  all-turn : i < length l → all p (drop i l) ≡ both (p (getD l i 0)) (all p (drop (i + 1) l))
+  unfolding all
+  all-turn h = rw (drop-cons l i 0 h, add-one)
+
+  pub all-next : i < length l → p (getD l i 0) ≡ true → all p (drop i l) ≡ all p (drop (i + 1) l)
+  all-next h e = all-turn h ∙ (rw e)
+
+  pub all-stop : i < length l → p (getD l i 0) ≡ false → all p (drop i l) ≡ false
+  all-stop h e = all-turn h ∙ (rw e)
+
+  pub all-end : length l ≤ i → all p (drop i l) ≡ true
+  unfolding all
+  all-end h = rw (drop-of-length-le l h)
+
+-- the ends of no row, and of one row more
+
+pub only-start : (ends : List ℕ) (n : ℕ) → length ends ≡ n → onlyEnds [] ends ≡ map (λ _. 0) (range 0 n)
+unfolding onlyEnds member any
+only-start ends n e = ap (λ (n : ℕ). map (λ _. 0) (range 0 n)) e
+
+member-other : (j r : ℕ) (l : List ℕ) → ¬ (j ≡ r) → member j l ≡ member j (l ++ (r ∷ []))
+member-other j r l n = T-same (member j l) (member j (l ++ (r ∷ []))) (λ t. member-in (snoc-old r (member-out j l t)))
+    (λ t. ⊎-elim (λ m. member-in m) (λ e. absurd (n e)) (snoc-out l (member-out j (l ++ (r ∷ [])) t)))
+
+module _ (l ends : List ℕ) (r : ℕ) where
+  only-other : (j : ℕ) → ¬ (j ≡ r) → getD (onlyEnds l ends) j 0 ≡ getD (onlyEnds (l ++ (r ∷ [])) ends) j 0
+  only-other j n = only-at l ends j ∙ ap (λ (b : Bool). pick b (getD ends j 0) 0) (member-other j r l n) ∙ sym (only-at (l ++ (r ∷ [])) ends j)
+
+  only-new : getD ends r 0 ≡ getD (onlyEnds (l ++ (r ∷ [])) ends) r 0
+  only-new = sym (only-at (l ++ (r ∷ [])) ends r ∙ pick-true (member r (l ++ (r ∷ []))) (getD ends r 0) 0 (member-in (snoc-new l r)))
+
+  only-more : r < length ends → set (onlyEnds l ends) r (getD ends r 0) ≡ onlyEnds (l ++ (r ∷ [])) ends
+  only-more h = ext-getD 0 _ _ (simp (length-set, only-length)) (λ j _. elim (ℕ-discrete j r) [
+    | yes e ↦ rw e (getD-set-same (onlyEnds l ends) r (getD ends r 0) 0 (rw only-length h) ∙ only-new)
+    | no n ↦ getD-set-other (onlyEnds l ends) r j (getD ends r 0) 0 n ∙ only-other j n
+  ])
+
+  only-past : length ends ≤ r → onlyEnds l ends ≡ onlyEnds (l ++ (r ∷ [])) ends
+  only-past h = ext-getD 0 _ _ (simp only-length) (λ j low. only-other j (λ e. omega (arith, only-length l ends)))
+
+module _ (rows ends : List ℕ) (i : ℕ) (h : i < length rows) where
+  next : take i rows ++ (getD rows i 0 ∷ []) ≡ take (i + 1) rows
+  next = rw add-one (sym (take-suc rows i 0 h))
+
+  pub only-next : getD rows i 0 < length ends → set (onlyEnds (take i rows) ends) (getD rows i 0) (getD ends (getD rows i 0) 0) ≡ onlyEnds (take (i + 1) rows) ends
+  only-next low = only-more (take i rows) ends (getD rows i 0) low ∙ ap (λ (l : List ℕ). onlyEnds l ends) next
+
+  pub only-skip : length ends ≤ getD rows i 0 → onlyEnds (take i rows) ends ≡ onlyEnds (take (i + 1) rows) ends
+  only-skip high = only-past (take i rows) ends (getD rows i 0) high ∙ ap (λ (l : List ℕ). onlyEnds l ends) next
+
+-- the ends of the first m rows
+
+pub only-take : (rows ends : List ℕ) (m : ℕ) → take m (onlyEnds rows ends) ≡ onlyEnds rows (take m ends)
+only-take rows ends m = ext-getD 0 _ _ (simp (length-take, only-length)) (λ j h.
+    let low : j < m = omega (arith, length-take m (onlyEnds rows ends)) in
+    getD-take m (onlyEnds rows ends) j 0 low ∙ only-at rows ends j
+    ∙ sym (only-at rows (take m ends) j ∙ ap (λ (x : ℕ). pick (member j rows) x 0) (getD-take m ends j 0 low)))
+
+pub part-length : (rows ends : List ℕ) (m : ℕ) → m ≤ length ends → m ≡ length (take m (onlyEnds rows ends))
+part-length rows ends m h = omega (arith, length-take m (onlyEnds rows ends), only-length rows ends)
+
+-- check after check
+
+pub refusal : (d : DrawnAnswer) (n : ℕ) → d .number ≡ n → ¬ (n ≡ 0) → drawnOf d ≡ refused n
+refusal d n e z = rw (e, ne-eqb n 0 z)
+
+module _ (firsts seconds : List ℕ) (limit plant nodes width : ℕ) (rows : List ℕ) where
+  abbrev keys : List Key
+  keys = drawnKeys firsts seconds limit plant nodes width rows
+
+  abbrev tried : Outcome (List ℕ)
+  tried = triedOf firsts seconds limit plant nodes width rows
+
+  pub tried-8 : ¬ (length rows ≡ width) → tried ≡ refused 8
+  unfolding triedOf checked firstUnmet
+  tried-8 n = rw (ne-eqb _ _ n)
+
+  module _ (m : ℕ) (long : m ≡ length firsts) (size : length rows ≡ width) where
+    pub tried-9 : all (λ r. ltb r m) rows ≡ false → tried ≡ refused 9
+    unfolding triedOf checked firstUnmet
+    tried-9 n = rw (eq-eqb _ _ size, ← long, n)
+
+    module _ (known : all (λ r. ltb r m) rows ≡ true) where
+      pub tried-10 : ¬ (length keys ≡ width) → tried ≡ refused 10
+      unfolding triedOf checked firstUnmet
+      tried-10 n = rw (eq-eqb _ _ size, ← long, known, ne-eqb _ _ n)
+
+      pub tried-met : length keys ≡ width → tried ≡ answered (map (λ (k : Key). k .row) keys)
+      unfolding triedOf checked firstUnmet
+      tried-met e = rw (eq-eqb _ _ size, ← long, known, eq-eqb _ _ e)

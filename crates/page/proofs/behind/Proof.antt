@@ -1,0 +1,40 @@
+-- `page::behind` meets its contract: what follows the start, or the first path where the start is empty.
+use native.Mathlib.Omega.{arith}
+use borrow.Author.Needs.{needs}
+use Rattle.page.proofs.Steps.{start-first, start-following}
+use Rattle.page.proofs.behind.Statement.{statement}
+use Rattle.page.proofs.behind.Tie as tie
+
+following-requires : tie.Need-following-requires
+following-requires c κs = search needs
+
+returns : tie.Need-returns
+returns c =
+    let s = c .before .before .before .before .before .before in
+    rw (c .following .ensures) (start-following (s .pre .0) (s .args .start .now) (omega arith) (s .pre .1))
+
+start-requires : tie.Need-start-requires
+start-requires c κs = search needs
+
+fresh-after-requires : tie.Need-fresh-after-requires
+fresh-after-requires c κs = search needs
+
+grown-requires : tie.Need-grown-requires
+grown-requires c κs = search needs
+
+returns-2 : tie.Need-returns-2
+returns-2 c =
+    let s = c .before .before .before .before .before .before .before .before in
+    start-first (s .pre .0) (s .args .start .now) (c .before .before .start .result) (c .grown .result) (c .before .fresh-after .result)
+    (c .before .before .before .if1 .left) (c .before .before .start .ensures) (c .before .fresh-after .ensures) (c .grown .ensures .1)
+
+pub behind-spec : {M : Type 1} → statement M
+behind-spec =
+    tie.close
+    (tie.spec
+    following-requires
+    returns
+    start-requires
+    fresh-after-requires
+    grown-requires
+    returns-2)

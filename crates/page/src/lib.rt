@@ -1,0 +1,247 @@
+//! Page: the next trees of the list, as many as remain and fit.
+//! What the functions below `page` are given and answer stands in specs/Walkable.antt.
+ghost use mathlib.Core.Path.{_≡_};
+ghost use Prim.Native.Nat.{_+_, _≤_};
+ghost use lib.ListN.{getElem?, length};
+ghost use lib.Seq.{paste};
+ghost use mathlib.Core.Option.{none};
+ghost use Rattle.lists.specs.Lists.{same};
+ghost use Rattle.checks.specs.Checks.{firstUnmet};
+ghost use Rattle.graph.specs.Paths.{trees};
+ghost use Rattle.network_file.specs.File.{fileChecks};
+ghost use Rattle.operations.specs.Operations.{graphIn, pageCall, startChecks};
+ghost use Rattle.pages.specs.Pages.{restAfter};
+ghost use Rattle.spread.specs.Spread.{neighboursOf};
+ghost use Rattle.trace.specs.Trace.{traceOf};
+ghost use Rattle.walk.specs.Walk.{afterOf, nextOf};
+ghost use Rattle.reach.specs.Answers.{reachedOf};
+ghost use Rattle.page.specs.Answers.{numbered, pagedOf, refusedBy};
+ghost use Rattle.page.specs.Walkable.{Startable, Walkable, filledBy, graphBy, rowsIn, rowsOpt};
+use paths::Path;
+use reach::ReachAnswer;
+use walk::Next;
+
+/// The answer of Page: how many trees were written, and whether a tree follows.
+pub enum PageAnswer {
+    Trees { count: usize, more: bool },
+    Refused(u8),
+}
+
+// Writes the rows of a path from a place of the page on.
+fn put(page: &mut [u16], at: usize, path: Path)
+    requires { ⌜ at + length (rowsIn path) ≤ length (now page) ⌝ }
+    ensures { λ _. ⌜ now (page .exit) ≡ paste (now (page .entry)) at (rowsIn path) (length (rowsIn path)) ⌝ }
+{
+    let n = path.length();
+    let mut j: usize = 0;
+    while j < n {
+        page[at + j] = path.row_at(j);
+        j += 1;
+    }
+}
+
+// The first path behind all that begin with the rows in these places.
+fn following(
+    neighbours: &[u64],
+    firsts: &[u8],
+    seconds: &[u8],
+    plant: u8,
+    limit: u8,
+    nodes: u64,
+    width: usize,
+    places: &[u16],
+) -> Next
+    ensures { λ r. ⌜ nextOf r ≡ afterOf (now (neighbours .entry)) (now (firsts .entry)) (now (seconds .entry)) limit plant nodes width (traceOf (now (firsts .entry)) (now (seconds .entry)) plant (now (places .entry))) (length (now (places .entry))) ⌝ }
+{
+    let path = trace::trace(firsts, seconds, plant, places);
+    let len = places.len();
+    walk::after(neighbours, firsts, seconds, limit, nodes, width, path, len)
+}
+
+// The first path behind the start; the first of all where the start is empty.
+fn behind(
+    neighbours: &[u64],
+    firsts: &[u8],
+    seconds: &[u8],
+    plant: u8,
+    limit: u8,
+    nodes: u64,
+    width: usize,
+    start: &[u16],
+) -> Next
+    requires { ⌜ Walkable (now neighbours) (now firsts) (now seconds) plant limit nodes width × Startable (graphBy (now firsts) (now seconds) plant limit nodes) (now start) ⌝ }
+    ensures { λ r. ⌜ rowsOpt (nextOf r) ≡ getElem? (restAfter (trees (graphBy (now (firsts .entry)) (now (seconds .entry)) plant limit nodes)) (now (start .entry))) 0 ⌝ }
+{
+    if 0 < start.len() {
+        return following(
+            neighbours,
+            firsts,
+            seconds,
+            plant,
+            limit,
+            nodes,
+            width,
+            start,
+        );
+    }
+    let path = Path::start(plant);
+    let fresh = grow::fresh_after(nodes, path);
+    let first = grow::grown(neighbours, firsts, seconds, limit, width, fresh, path, 0, 0);
+    Next {
+        some: true,
+        path: first,
+    }
+}
+
+// Fills the page with the trees behind the start, as many as remain and fit. Each is read from its places in the page to find the next.
+fn fill(
+    neighbours: &[u64],
+    firsts: &[u8],
+    seconds: &[u8],
+    plant: u8,
+    limit: u8,
+    nodes: u64,
+    width: usize,
+    page: &mut [u16],
+    start: &[u16],
+) -> PageAnswer
+    requires { ⌜ Walkable (now neighbours) (now firsts) (now seconds) plant limit nodes width × Startable (graphBy (now firsts) (now seconds) plant limit nodes) (now start) ⌝ }
+    ensures { λ r. ⌜ record { outcome = pagedOf r; buffers = now (page .exit) } ≡ filledBy width (now (page .entry)) (restAfter (trees (graphBy (now (firsts .entry)) (now (seconds .entry)) plant limit nodes)) (now (start .entry))) ⌝ }
+{
+    let mut next = behind(
+        neighbours,
+        firsts,
+        seconds,
+        plant,
+        limit,
+        nodes,
+        width,
+        start,
+    );
+    let mut at: usize = 0;
+    let mut count: usize = 0;
+    while next.some {
+        if page.len() - at < width {
+            return PageAnswer::Trees {
+                count: count,
+                more: true,
+            };
+        }
+        let from = at;
+        put(page, from, next.path);
+        at += width;
+        count += 1;
+        let last = &page[from..at];
+        next = following(
+            neighbours,
+            firsts,
+            seconds,
+            plant,
+            limit,
+            nodes,
+            width,
+            last,
+        );
+    }
+    PageAnswer::Trees {
+        count: count,
+        more: false,
+    }
+}
+
+// The same, with the neighbours still to be found.
+fn list(
+    firsts: &[u8],
+    seconds: &[u8],
+    plant: u8,
+    limit: u8,
+    nodes: u64,
+    width: usize,
+    page: &mut [u16],
+    start: &[u16],
+) -> PageAnswer
+    requires { ⌜ Walkable (neighboursOf (now firsts) (now seconds)) (now firsts) (now seconds) plant limit nodes width × Startable (graphBy (now firsts) (now seconds) plant limit nodes) (now start) ⌝ }
+    ensures { λ r. ⌜ record { outcome = pagedOf r; buffers = now (page .exit) } ≡ filledBy width (now (page .entry)) (restAfter (trees (graphBy (now (firsts .entry)) (now (seconds .entry)) plant limit nodes)) (now (start .entry))) ⌝ }
+{
+    let neighbours = spread::neighbours(firsts, seconds);
+    fill(
+        &neighbours,
+        firsts,
+        seconds,
+        plant,
+        limit,
+        nodes,
+        width,
+        page,
+        start,
+    )
+}
+
+// Whether these are the rows of the path, in its order.
+fn written(path: Path, rows: &[u16]) -> bool
+    ensures { λ r. ⌜ r ≡ same (rowsIn path) (now (rows .entry)) ⌝ }
+{
+    if path.length() != rows.len() {
+        return false;
+    }
+    let mut i: usize = 0;
+    while i < rows.len() {
+        if path.row_at(i) != rows[i] {
+            return false;
+        }
+        i += 1;
+    }
+    true
+}
+
+// The number of the first check of the start that is not met, of 8, 9, 10 and 13; 0 where there is none.
+fn start_number(file: &[u8], start: &[u16]) -> u8
+    ensures { λ r. ⌜ (firstUnmet (fileChecks (now (file .entry))) ≡ none → firstUnmet (startChecks (graphIn (now (file .entry))) (now (start .entry))) ≡ numbered r) ⌝ }
+{
+    if start.len() == 0 {
+        return 0;
+    }
+    let drawn = drawn::drawn(file, start);
+    if drawn.number != 0 {
+        return drawn.number;
+    }
+    if written(drawn.path, start) { 0 } else { 13 }
+}
+
+// A refusal of Reach as one of Page; only a refusal is asked.
+fn refused(reached: ReachAnswer) -> PageAnswer
+    ensures { λ r. ⌜ pagedOf r ≡ refusedBy (reachedOf reached) ⌝ }
+{
+    match reached {
+        ReachAnswer::Set { word: _, size: _ } => PageAnswer::Refused(0),
+        ReachAnswer::Refused(number) => PageAnswer::Refused(number),
+    }
+}
+
+/// Page: the trees behind the start path, or from the first on where it is empty, n - 1 places each.
+pub fn page(file: &[u8], page: &mut [u16], start: &[u16]) -> PageAnswer
+    ensures { λ r. ⌜ record { outcome = pagedOf r; buffers = now (page .exit) } ≡ pageCall (now (file .entry)) (now (page .entry)) (now (start .entry)) ⌝ }
+{
+    let reached = reach::reach(file);
+    let ReachAnswer::Set { word: _, size } = reached else {
+        return refused(reached);
+    };
+    let header = network::header_of(file);
+    let n = header.n;
+    if size != n as u32 {
+        return PageAnswer::Refused(12);
+    }
+    let width = n as usize - 1;
+    if page.len() < width {
+        return PageAnswer::Refused(11);
+    }
+    let number = start_number(file, start);
+    if number != 0 {
+        return PageAnswer::Refused(number);
+    }
+    let m = header.m as usize;
+    let firsts = ends::first_ends(file);
+    let seconds = ends::second_ends(file);
+    let nodes = ends::nodes_word(n);
+    list(&firsts[..m], &seconds[..m], 1, n, nodes, width, page, start)
+}

@@ -1,0 +1,6 @@
+pub mod Closing
+pub mod Compare
+pub mod Entering
+pub mod Filled
+pub mod Places
+pub mod Rows

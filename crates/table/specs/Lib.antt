@@ -1,0 +1,3 @@
+pub mod Enter
+pub mod Answers
+pub mod Parts

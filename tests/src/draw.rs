@@ -1,0 +1,168 @@
+//! Networks and drawn rows made from seeds: rows beside each other, few costs and streets so that they tie, parts that
+//! nothing joins, nodes that no row touches; rows drawn well, and with slips.
+
+use crate::file::{Network, Row, MOST};
+use crate::rng::Rng;
+
+/// A network of at most so many nodes and rows; there must be room for a spanning tree.
+pub fn network(rng: &mut Rng, most_nodes: usize, most_rows: usize) -> Network {
+    let n = if rng.once_in(10) {
+        most_nodes
+    } else {
+        rng.between(2, most_nodes)
+    };
+    let pairs = pairs(rng, n, most_rows);
+
+    let k = rng.between(1, 4);
+    let most_cost = rng.pick(&[0, 1, 3, 9, 30, MOST as usize]);
+    let most_street = rng.pick(&[0, 1, 3, u16::MAX as usize]);
+    let row = |ends: [u8; 2]| Row {
+        ends,
+        street: rng.between(0, most_street) as u16,
+        costs: (0..k).map(|_| rng.between(0, most_cost) as u32).collect(),
+    };
+    let rows = pairs.into_iter().map(row).collect();
+    Network {
+        n: n as u8,
+        kinds: (0..k).map(|_| rng.between(0, 2) as u8).collect(),
+        rows,
+    }
+}
+
+/// The ends of the rows.
+fn pairs(rng: &mut Rng, n: usize, most_rows: usize) -> Vec<[u8; 2]> {
+    let mut nodes: Vec<u8> = (1..=n as u8).collect();
+    rng.shuffle(&mut nodes);
+
+    // Mostly one part with all the nodes; else two, of which one may be a single node, or be left without rows.
+    let mut parts = vec![&nodes[..]];
+    if rng.once_in(4) {
+        let (a, b) = nodes.split_at(rng.between(1, n - 1));
+        parts = if rng.once_in(2) { vec![a, b] } else { vec![a] };
+    }
+    parts.retain(|part| part.len() > 1);
+
+    let mut pairs = Vec::new();
+    for part in &parts {
+        join(rng, part, &mut pairs);
+    }
+    let room = most_rows - pairs.len();
+    for _ in 0..rng.pick(&[0, 1, 2, room / 4, room / 2, room]).min(room) {
+        if !parts.is_empty() {
+            let part = rng.pick(&parts);
+            let pair = if rng.once_in(3) {
+                rng.pick(&pairs)
+            } else {
+                two_of(rng, part)
+            };
+            pairs.push(pair);
+        }
+    }
+
+    for pair in &mut pairs {
+        rng.shuffle(pair);
+    }
+    rng.shuffle(&mut pairs);
+    // A few rows lost: the network may then be in parts that nobody chose.
+    if rng.once_in(6) {
+        pairs.truncate(rng.between(0, pairs.len()));
+    }
+    pairs
+}
+
+/// Joins each node of a part to one that stands before it: to the last, so that they make a line, to the first, so that
+/// they make a star, or to any.
+fn join(rng: &mut Rng, part: &[u8], pairs: &mut Vec<[u8; 2]>) {
+    let shape = rng.between(0, 3);
+    for i in 1..part.len() {
+        let to = match shape {
+            0 => i - 1,
+            1 => 0,
+            _ => rng.between(0, i - 1),
+        };
+        pairs.push([part[i], part[to]]);
+    }
+}
+
+fn two_of(rng: &mut Rng, part: &[u8]) -> [u8; 2] {
+    let a = rng.between(0, part.len() - 1);
+    let b = rng.between(0, part.len() - 2);
+    [part[a], part[if b < a { b } else { b + 1 }]]
+}
+
+/// A spanning tree in any sequence, if the network has one; else as many rows that make no cycle.
+pub fn forest(rng: &mut Rng, network: &Network) -> Vec<u16> {
+    let mut rows: Vec<u16> = (0..network.m() as u16).collect();
+    rng.shuffle(&mut rows);
+    let mut part: Vec<u8> = (0..=network.n).collect();
+    rows.retain(|&row| {
+        let [a, b] = network.rows[row as usize]
+            .ends
+            .map(|end| part[end as usize]);
+        part.iter_mut().filter(|p| **p == a).for_each(|p| *p = b);
+        a != b
+    });
+    rng.shuffle(&mut rows);
+    rows
+}
+
+/// Rows as somebody may draw them: n - 1 of them where there are rows at all, a spanning tree if there is one, and then
+/// often a slip or two.
+pub fn rows(rng: &mut Rng, network: &Network) -> Vec<u16> {
+    let mut rows = forest(rng, network);
+    while rows.len() < network.width() {
+        let row = some_row(rng, network);
+        rows.push(row);
+    }
+    for _ in 0..rng.pick(&[0, 0, 0, 1, 1, 1, 2]) {
+        slip(rng, network, &mut rows);
+    }
+    rows
+}
+
+/// A row of the network; the number of a missing one if it has none.
+fn some_row(rng: &mut Rng, network: &Network) -> u16 {
+    rng.between(0, network.m().max(1) - 1) as u16
+}
+
+fn slip(rng: &mut Rng, network: &Network, rows: &mut Vec<u16>) {
+    let row = some_row(rng, network);
+    if rows.is_empty() {
+        return rows.push(row);
+    }
+    let at = rng.between(0, rows.len() - 1);
+    match rng.between(0, 5) {
+        // one too few, or none at all
+        0 => {
+            rows.remove(at);
+            if rng.once_in(4) {
+                rows.clear();
+            }
+        }
+        // one too many, or many
+        1 => {
+            rows.insert(at, row);
+            if rng.once_in(4) {
+                rows.extend_from_within(..);
+            }
+        }
+        // no row of the network, some with the low bits of one
+        2 => {
+            let m = network.m() as u16;
+            rows[at] = rng.pick(&[
+                m,
+                m + 1,
+                256,
+                257,
+                row + 256,
+                row + 512,
+                row + 0x8000,
+                0xffff,
+            ]);
+        }
+        // one row twice
+        3 => rows[at] = rng.pick(rows),
+        // another row in one's place
+        _ => rows[at] = row,
+    }
+}

@@ -1,0 +1,42 @@
+//! Buffers as the tests lend them: with random content, and with places behind the lent ones that no call may write.
+
+use std::fmt::Debug;
+
+/// Places behind those that are lent.
+const BEYOND: usize = 4;
+
+pub struct Lent<T> {
+    places: usize,
+    before: Vec<T>,
+    now: Vec<T>,
+}
+
+impl<T: Copy + PartialEq + Debug> Lent<T> {
+    /// A buffer of so many places, each with content of its own.
+    pub fn new(places: usize, mut content: impl FnMut() -> T) -> Lent<T> {
+        let before: Vec<T> = (0..places + BEYOND).map(|_| content()).collect();
+        let now = before.clone();
+        Lent {
+            places,
+            before,
+            now,
+        }
+    }
+
+    /// The places that a call is lent.
+    pub fn part(&mut self) -> &mut [T] {
+        &mut self.now[..self.places]
+    }
+
+    /// What stands in the first places now.
+    pub fn first(&self, places: usize) -> &[T] {
+        &self.now[..places]
+    }
+
+    /// Fails unless these values stand in the first places and every other place has kept its content.
+    pub fn expect(&self, written: &[T], told: impl Fn() -> String) {
+        let mut expected = self.before.clone();
+        expected[..written.len()].copy_from_slice(written);
+        assert_eq!(self.now, expected, "{}", told());
+    }
+}

@@ -1,0 +1,294 @@
+//! Page, as linked from the proved library, held to document 01 and to the list by subsets of rows: known counts first,
+//! then runs of pages over seeded networks, refused calls between, every page compared whole.
+
+use planner_tests::damage::damaged;
+use planner_tests::draw;
+use planner_tests::ffi::{self, SHORT_ANSWER};
+use planner_tests::file::{network_a, Network, Row};
+use planner_tests::lent::Lent;
+use planner_tests::operations::{self, Listed};
+use planner_tests::rng::Rng;
+use planner_tests::trees;
+
+/// One call: the file, a page of so many places, the start, and an answer of so many places. Returns the code that it
+/// must have, and the trees that it must have written.
+fn hold(
+    file: &[u8],
+    read: &Result<Listed, u32>,
+    places: usize,
+    start: &[u16],
+    answer_places: usize,
+    rng: &mut Rng,
+) -> (u32, Vec<Vec<u16>>) {
+    let mut page = Lent::new(places, || rng.word() as u16);
+    let mut answer = Lent::new(answer_places, || rng.word() as u32);
+    let code = ffi::page(file, page.part(), start, answer.part());
+    let (expected, trees, counted) = match operations::page(read, places, start) {
+        _ if answer_places < 2 => (SHORT_ANSWER, vec![], vec![]),
+        Ok(paged) => {
+            let counted = vec![paged.trees.len() as u32, paged.more as u32];
+            (0, paged.trees.to_vec(), counted)
+        }
+        Err(number) => (number, vec![], vec![]),
+    };
+    let told = || format!("Page of {places} places after {start:?}, file {file:02x?}");
+    assert_eq!(code, expected, "{}", told());
+    page.expect(&trees.concat(), told);
+    answer.expect(&counted, told);
+    (expected, trees)
+}
+
+/// A network of added costs 0 with these rows.
+fn with_rows(n: u8, pairs: &[[u8; 2]]) -> Network {
+    let row = |&ends: &[u8; 2]| Row {
+        ends,
+        street: 0,
+        costs: vec![0],
+    };
+    Network {
+        n,
+        kinds: vec![0],
+        rows: pairs.iter().map(row).collect(),
+    }
+}
+
+fn complete(n: u8) -> Network {
+    let pairs: Vec<[u8; 2]> = (1..=n)
+        .flat_map(|a| (a + 1..=n).map(move |b| [a, b]))
+        .collect();
+    with_rows(n, &pairs)
+}
+
+/// Two rings of five, the inner one by every second node, and a spoke from each node to its own.
+fn petersen() -> Network {
+    let mut pairs = Vec::new();
+    for i in 0..5 {
+        pairs.push([i + 1, (i + 1) % 5 + 1]);
+        pairs.push([i + 6, (i + 2) % 5 + 6]);
+        pairs.push([i + 1, i + 6]);
+    }
+    with_rows(10, &pairs)
+}
+
+/// A ring of n - 1 nodes, each with a row to node 1.
+fn wheel(n: u8) -> Network {
+    let mut pairs = Vec::new();
+    for node in 2..=n {
+        pairs.push([1, node]);
+        pairs.push([node, if node == n { 2 } else { node + 1 }]);
+    }
+    with_rows(n, &pairs)
+}
+
+/// Two lines of n / 2 nodes with a rung from each node to its own.
+fn ladder(n: u8) -> Network {
+    let half = n / 2;
+    let mut pairs = Vec::new();
+    for node in 1..=half {
+        pairs.push([node, node + half]);
+        if node < half {
+            pairs.push([node, node + 1]);
+            pairs.push([node + half, node + half + 1]);
+        }
+    }
+    with_rows(n, &pairs)
+}
+
+/// The whole list through pages of so many trees, the last ones read back from the pages.
+fn listed(network: &Network, trees_a_page: usize) -> Vec<Vec<u16>> {
+    let file = network.encode();
+    let width = network.width();
+    let mut page = vec![0; trees_a_page * width];
+    let mut list: Vec<Vec<u16>> = Vec::new();
+    loop {
+        let start = list.last().cloned().unwrap_or_default();
+        let mut answer = [0; 2];
+        assert_eq!(ffi::page(&file, &mut page, &start, &mut answer), 0);
+        let [count, more] = answer.map(|value| value as usize);
+        list.extend(page.chunks(width).take(count).map(<[u16]>::to_vec));
+        if more == 0 {
+            return list;
+        }
+    }
+}
+
+#[test]
+fn network_a_of_document_01() {
+    let list: [&[u16]; 5] = [&[0, 2], &[0, 3], &[1, 2], &[1, 3], &[2, 3]];
+    for trees_a_page in 1..7 {
+        assert_eq!(listed(&network_a(), trees_a_page), list);
+    }
+    let file = network_a().encode();
+    let mut page = [7; 2];
+    let mut answer = [7; 2];
+    assert_eq!(ffi::page(&file, &mut page, &[3, 2], &mut answer), 13);
+    assert_eq!((page, answer), ([7; 2], [7; 2]));
+    assert_eq!(ffi::page(&file, &mut page, &[2, 3], &mut answer), 0);
+    assert_eq!((page, answer), ([7; 2], [0, 0]));
+}
+
+/// The counts of document 004 (n to the power n - 2) and document 003.
+#[test]
+fn known_counts() {
+    for (name, network, count) in [
+        ("complete graph of 4 nodes", complete(4), 16),
+        ("complete graph of 5 nodes", complete(5), 125),
+        ("complete graph of 6 nodes", complete(6), 1_296),
+        ("complete graph of 7 nodes", complete(7), 16_807),
+        ("Petersen graph", petersen(), 2_000),
+        ("wheel of 6 nodes", wheel(6), 121),
+        ("ladder of 8 nodes", ladder(8), 56),
+    ] {
+        let list = trees::list(&network);
+        assert_eq!(list.len(), count, "{name}");
+        for trees_a_page in [1, 64, 20_000] {
+            assert_eq!(listed(&network, trees_a_page), list, "{name}");
+        }
+    }
+}
+
+/// 12 comes before 11, and 11 before whatever is wrong with the start: 8, 9, 10, 13 in this order.
+#[test]
+fn the_first_check_decides() {
+    let rng = &mut Rng::new(12);
+    let a = network_a().encode();
+    let mut apart = network_a();
+    apart.rows.truncate(2);
+    let apart = apart.encode();
+    let starts: [(&[u16], u32); 10] = [
+        (&[], 0),
+        (&[0], 8),
+        (&[4], 8),
+        (&[0, 0, 0], 8),
+        (&[4, 4], 9),
+        (&[0, 260], 9),
+        (&[0, 0], 10),
+        (&[0, 1], 10),
+        (&[3, 2], 13),
+        (&[2, 3], 0),
+    ];
+    for (start, number) in starts {
+        let read = Listed::read(&a);
+        for places in 0..2 {
+            assert_eq!(hold(&a, &read, places, start, 2, rng).0, 11);
+        }
+        for places in 2..13 {
+            assert_eq!(hold(&a, &read, places, start, 2, rng).0, number);
+        }
+        let read = Listed::read(&apart);
+        for places in 0..13 {
+            assert_eq!(hold(&apart, &read, places, start, 2, rng).0, 12);
+        }
+    }
+    let none = with_rows(2, &[]).encode();
+    assert_eq!(hold(&none, &Listed::read(&none), 1, &[], 2, rng).0, 12);
+}
+
+/// A network that has only one tree, however many half-grown paths lead nowhere: a star with the plant at its rim.
+#[test]
+fn a_star_of_32_nodes() {
+    let mut pairs = vec![[32, 1]];
+    pairs.extend((2..32).map(|node| [node, 32]));
+    let tree: Vec<u16> = (0..31).collect();
+    for trees_a_page in [1, 2] {
+        assert_eq!(listed(&with_rows(32, &pairs), trees_a_page), [&tree[..]]);
+    }
+}
+
+/// How many seeded networks there are, and how many at the least must come of everything that is counted.
+const NETWORKS: u64 = 12_000;
+const ENOUGH: usize = 500;
+
+/// How many places a page has: none, too few for a tree, for some trees exactly, or with places left over.
+fn places(width: usize, list: usize, rng: &mut Rng) -> usize {
+    match rng.between(0, 9) {
+        0 => 0,
+        1 => rng.between(0, width - 1),
+        2 => width,
+        3 => width * rng.between(1, 3),
+        4 => width * list,
+        5 => width * (list + 1) + rng.between(0, width),
+        _ => rng.between(width, width * (1 + list / 2).min(80)),
+    }
+}
+
+/// A start that somebody may hand over who is in no run: any tree of the list, the last, or rows drawn by hand.
+fn any_start(read: &Listed, rng: &mut Rng) -> Vec<u16> {
+    match rng.between(0, 3) {
+        0 if !read.list.is_empty() => read.list[rng.between(0, read.list.len() - 1)].clone(),
+        1 if !read.list.is_empty() => read.list[read.list.len() - 1].clone(),
+        _ => draw::rows(rng, &read.network),
+    }
+}
+
+#[test]
+fn runs_of_pages_over_seeded_networks() {
+    let mut of_code = [0; 256];
+    let mut trees = 0;
+    let mut most = 0;
+    let mut to_the_end = 0;
+    for seed in 0..NETWORKS {
+        let rng = &mut Rng::new(seed);
+        let network = draw::network(rng, 7, 15);
+        let file = network.encode();
+        let read = Listed::read(&file);
+        let listed = read.as_ref().unwrap();
+        let (width, list) = (network.width(), &listed.list);
+        trees += list.len();
+        most = most.max(list.len());
+
+        // The run: each call starts after the last tree written so far.
+        let mut written: Vec<Vec<u16>> = Vec::new();
+        let mut fit = 0;
+        for _ in 0..rng.between(0, 12) {
+            let start = written.last().cloned().unwrap_or_default();
+            let places = places(width, list.len(), rng);
+            let (code, next) = hold(&file, &read, places, &start, 2, rng);
+            of_code[code as usize] += 1;
+            fit += places / width;
+            written.extend(next);
+
+            // Calls between that are in no run.
+            for _ in 0..rng.between(0, 2) {
+                let start = any_start(listed, rng);
+                let places = rng.pick(&[0, width, width, 3 * width, 3 * width + 1]);
+                let answer = rng.pick(&[0, 1, 2, 2, 2, 2, 3, 5]);
+                let (code, _) = hold(&file, &read, places, &start, answer, rng);
+                of_code[code as usize] += 1;
+            }
+        }
+        assert_eq!(written[..], list[..list.len().min(fit)]);
+        to_the_end += (!list.is_empty() && written.len() == list.len()) as usize;
+    }
+    println!("{NETWORKS} networks with {trees} trees, the most {most}");
+    println!("{to_the_end} runs to the end of their list");
+    println!("calls by code, 0 to 13: {:?}", &of_code[..14]);
+    println!("with a short answer: {}", of_code[255]);
+    for code in [0, 8, 9, 10, 11, 12, 13, 255] {
+        assert!(of_code[code] >= ENOUGH, "too few: {code}");
+    }
+    assert!(to_the_end >= ENOUGH && most >= 1_000);
+}
+
+#[test]
+fn damaged_files() {
+    let mut of_code = [0; 256];
+    for seed in 0..20_000 {
+        let rng = &mut Rng::new(seed);
+        let network = draw::network(rng, 5, 8);
+        let file = damaged(&network, rng);
+        let read = Listed::read(&file);
+        let start = if rng.once_in(2) {
+            vec![]
+        } else {
+            draw::rows(rng, &network)
+        };
+        let places = rng.between(0, 3 * network.width());
+        let answer = rng.pick(&[0, 1, 2, 2, 2, 2, 2, 2, 3]);
+        let (code, _) = hold(&file, &read, places, &start, answer, rng);
+        of_code[code as usize] += 1;
+    }
+    println!("calls by code, 0 to 13: {:?}", &of_code[..14]);
+    assert!(of_code[1..8].iter().all(|&count| count >= ENOUGH));
+    assert!(of_code[255] >= ENOUGH);
+}
