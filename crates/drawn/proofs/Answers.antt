@@ -1,8 +1,10 @@
 -- What `drawn` comes to by Open's answer (`open-stops`, `tried-drawn`), and what its callers learn from its number: the first check that
--- is not met (`refused-by`), or that all are met and the path is the tree's (`answered-by`).
+-- is not met (`refused-by`), or that all are met and the path is the tree's (`answered-by`); and a call's end with check 11 behind (`call-refused`,
+-- `call-short`, `call-met`).
 use mathlib.Core.Path.{_∙_, _≡_, ap, refl, subst, sym}
+use mathlib.Core.Bool.{Bool, false, true}
 use mathlib.Core.Option.{Option, none, some}
-use mathlib.Core.List.{List, _++_, map, List·Memᴰ·head as here, List·Memᴰ·tail as there, Memᴰ·append-right as append-right}
+use mathlib.Core.List.{List, [], _++_, _∷_, map, List·Memᴰ·head as here, List·Memᴰ·tail as there, Memᴰ·append-right as append-right}
 use Prim.Native.Nat.{_-_, _≤_, pred, ℕ}
 use native.Mathlib.Omega.{arith}
 use lib.Dec.{T, eqb, ltb, ltb→lt}
@@ -15,11 +17,12 @@ use Rattle.graph.specs.Graph.{isTree, width}
 use Rattle.graph.specs.Paths.{Key, pathOf}
 use Rattle.graph.proofs.Minimal.{minimal-parts}
 use Rattle.graph.proofs.PathOf.{pathOf-tree}
-use Rattle.checks.specs.Checks.{Check, answered, checked, firstUnmet, outcomeBy, refused}
-use Rattle.checks.proofs.Checks.{firstUnmet-append, met-all, stops-iff}
-use Rattle.checks.proofs.Ended.{checked-refused, checked-unmet, firstUnmet-stops, unmet-parts}
+use Rattle.checks.specs.Checks.{Check, Ended, answered, checked, ended, firstUnmet, outcomeBy, refused}
+use Rattle.checks.proofs.Checks.{firstUnmet-append, firstUnmet-met, firstUnmet-unmet, met-all, stops-iff}
+use Rattle.checks.proofs.Ended.{checked-answered, checked-refused, checked-unmet, ended-met, ended-unmet, firstUnmet-stops, unmet-parts}
 use Rattle.network_file.specs.File.{Sizes, fileChecks, networkOf, openOf, sizesOf}
 use Rattle.network_file.proofs.Accepted.{Accepted, accepted}
+use Rattle.network_file.proofs.Opened.{open-answered, open-refused}
 use Rattle.operations.specs.Operations.{check, drawnChecks, graphIn, pathIn}
 use Rattle.operations.proofs.Files.{formed, node-count}
 use Rattle.ends.specs.Ends.{endsBy, nodesWord}
@@ -29,15 +32,6 @@ use Rattle.drawn.specs.Answers.{drawnCall, drawnOf}
 use Rattle.drawn.specs.Tried.{triedOf}
 use Rattle.drawn.specs.declared.DrawnAnswer.{DrawnAnswer}
 use Rattle.drawn.proofs.Trees.{Fits, tried-checks}
-
--- an answer has met all its checks
-pub checked-answered : {A : Type 0} (cs : List Check) (a : A) {b : A} → checked cs a ≡ answered b → (firstUnmet cs ≡ none) × (a ≡ b)
-unfolding checked
-checked-answered {A} cs a {b} = by (firstUnmet cs)
-  where
-    by : (o : Option ℕ) → outcomeBy o a ≡ answered b → (o ≡ none) × (a ≡ b)
-    by none h = (refl, cc)
-    by (some e) h = let z : _≡_ {A = ℕ} 0 1 = cc in absurd (omega arith)
 
 -- By Open's answer
 
@@ -54,9 +48,9 @@ numbered f e h z =
     omega (arith, ltb→lt 0 (s .stop .number) (all-out (λ c. ltb 0 (c .number)) from-one listed), s .numbered)
 
 pub open-stops : (f rows : List ℕ) (e : ℕ) → openOf f ≡ refused e → (drawnCall f rows ≡ refused e) × (¬ (e ≡ 0))
-unfolding openOf drawnCall
+unfolding drawnCall
 open-stops f rows e h =
-    let stop = checked-refused (fileChecks f) (sizesOf f) e h in
+    let stop = open-refused f e h in
     (checked-unmet (drawnTable f rows) _ e (firstUnmet-stops (fileChecks f) (drawnChecks (graphIn f) rows) e stop), numbered f e stop)
 
 pub file-fits : (f : List ℕ) → Accepted f → Fits (graphIn f) (sizesOf f .n) (nodesWord (sizesOf f .n))
@@ -71,8 +65,7 @@ file-fits f a = record {
 
 module _ (f : List ℕ) (s : Sizes) (h : openOf f ≡ answered s) where
   met : (firstUnmet (fileChecks f) ≡ none) × (sizesOf f ≡ s)
-  unfolding openOf
-  met = checked-answered (fileChecks f) (sizesOf f) h
+  met = open-answered f s h
 
   pub opened : (2 ≤ s .n) × (s .m ≤ 256)
   opened = let a = accepted f (met .0) in subst (λ (s : Sizes). (2 ≤ s .n) × (s .m ≤ 256)) (met .1) (a .nodes-low, a .rows-high)
@@ -104,7 +97,7 @@ module _ (f rows : List ℕ) where
   passed : (ps : List ℕ) → drawnCall f rows ≡ answered ps → Passed f rows ps
   unfolding drawnCall drawnChecks
   passed ps h =
-      let (met, same) = checked-answered (drawnTable f rows) _ h in
+      let (met, same) = checked-answered (drawnTable f rows) _ ps h in
       let (of-file, behind) = unmet-parts (fileChecks f) (drawnChecks (graphIn f) rows) met in
       let each = met-all (drawnChecks (graphIn f) rows) .0 behind in
       let file = accepted f of-file in
@@ -128,3 +121,25 @@ module _ (f rows : List ℕ) where
 
     pub answered-by : d .number ≡ 0 → Passed f rows (map (λ (k : Key). k .row) (keysOf (d .path)))
     answered-by z = passed _ (sym asked ∙ (rw (eq-eqb _ _ z)))
+
+    -- a call with check 11, which is b, behind these
+    module _ (b : Bool) (before after : List ℕ) where
+      abbrev checks : List Check
+      checks = drawnTable f rows ++ (check 11 b ∷ [])
+
+      abbrev call : Ended (Unit {0}) (List ℕ)
+      call = ended checks tt before after
+
+      pub call-refused : ¬ (d .number ≡ 0) → call ≡ record { outcome = refused (d .number); buffers = before }
+      call-refused n = ended-unmet checks tt before after (d .number) (firstUnmet-stops (drawnTable f rows) (check 11 b ∷ []) (d .number) (refused-by n))
+
+      module _ (z : d .number ≡ 0) where
+        last : firstUnmet checks ≡ firstUnmet (check 11 b ∷ [])
+        last = firstUnmet-append (drawnTable f rows) (check 11 b ∷ []) (answered-by z .met)
+
+        pub call-short : b ≡ false → call ≡ record { outcome = refused 11; buffers = before }
+        call-short e = ended-unmet checks tt before after 11 (last ∙ firstUnmet-unmet (check 11 b) [] e)
+
+        pub call-met : b ≡ true → call ≡ record { outcome = answered tt; buffers = after }
+        unfolding firstUnmet
+        call-met e = ended-met checks tt before after (last ∙ firstUnmet-met (check 11 b) [] e)

@@ -3,28 +3,26 @@
 use mathlib.Core.Path.{_∙_, _≡_, refl, sym}
 use mathlib.Core.Logic.{_↔_, _⊎_, inl, inr, ⊎-elim}
 use mathlib.Core.Option.{some}
-use mathlib.Core.List.{List, [], _++_, _∷_, Memᴰ·cast as mem-cast, List·Memᴰ·append-cases as append-cases, Memᴰ·append-left as append-left, Memᴰ·append-right as append-right, List·Memᴰ·cases-cons as mem-cases}
-use Prim.Native.Nat.{_<_, _≤_, suc, ℕ}
+use mathlib.Core.List.{List, [], _∷_, Memᴰ·cast as mem-cast}
+use Prim.Native.Nat.{_<_, suc, ℕ}
 use native.Mathlib.Decide.{decLt, ℕ-discrete}
 use native.Mathlib.Omega.{arith}
 use lib.Dec.{T}
-use lib.ListN.{List·getD-eq-default, getD, length, length-append, length-map}
-use lib.Seq.{append-snoc}
+use lib.ListN.{List·getD-eq-default, getD, length, length-map}
 use Rattle.lists.specs.Lists.{member, pick, range}
-use Rattle.lists.proofs.Distinct.{Distinct, filled, longer-member, pigeonhole}
-use Rattle.lists.proofs.Members.{_∈_, _⊆_, member-in, member-out}
+use Rattle.lists.proofs.Distinct.{filled, longer-member, no-repeat, pigeonhole}
+use Rattle.lists.proofs.Members.{_∈_, member-in, member-out}
 use Rattle.lists.proofs.Ranges.{getD-map-past, getD-map-range, range-length}
 use Rattle.lists.proofs.Tests.{pick-elim, pick-true}
 use Rattle.graph.specs.Graph.{Graph, isTree, rowNumbers}
 use Rattle.graph.specs.Paths.{Key, pathOf}
-use Rattle.graph.proofs.Growth.{Joins, Legal, Live, State, after, back, forth, greedy-live, necessary, rowsOf, rowsOf-length, some-step, start}
-use Rattle.graph.proofs.Keys.{ahead}
+use Rattle.graph.proofs.Growth.{Joins, Legal, State, after, back, forth, necessary, rowsOf, rowsOf-length, some-step, start}
 use Rattle.graph.proofs.Least.{Sound}
 use Rattle.graph.proofs.Minimal.{WellFormed, rowNumbers-in, sound-start}
 use Rattle.graph.proofs.PathOf.{pathOf-greedy}
 use Rattle.graph.proofs.Tree.{live-tree, tree-in, tree-live, tree-out}
 use Rattle.graph.proofs.Unique.{rows-distinct, rows-usable}
-use Rattle.graph.proofs.Walk.{Leasts, least-all, leasts-legal, sound-walk, stateAfter, stateAfter-length}
+use Rattle.graph.proofs.Walk.{Leasts, least-all, leasts-legal, leasts-live, sound-walk, stateAfter, stateAfter-length}
 use Rattle.drawn.specs.Only.{only, onlyEnds}
 
 -- The ends of drawn rows
@@ -109,23 +107,6 @@ module _ (g : Graph) (wf : WellFormed g) (rs : List ℕ) where
     )
 
 -- Least steps
-
--- a list that is no longer than distinct members of it has no member twice; `seen` goes before it
-no-repeat : {A : Type 0} (l seen m : List A) → Distinct l → l ⊆ seen ++ m → length (seen ++ m) ≤ length l → Distinct m
-no-repeat l seen [] d s h = tt
-no-repeat {A} l seen (x ∷ m) d s h = (
-  λ i. let short = pigeonhole l {m = seen ++ m} d (λ a j. elim (append-cases seen (s a j)) [
-    | inl p ↦ append-left m p
-    | inr q ↦ append-right seen (⊎-elim (λ e. mem-cast e i) (λ t. t) (mem-cases q))
-  ]) in
-      omega (arith, length-append seen m, length-append seen (x ∷ m)),
-  no-repeat l (seen ++ (x ∷ [])) m d (rw append-snoc s) (rw append-snoc h),
-)
-
-leasts-live : (g : Graph) (rs : List ℕ) (s : State) (ks : List Key) → Leasts g rs s ks → Live g rs s → Live g rs (stateAfter s ks)
-leasts-live g rs s [] a live = live
-leasts-live g rs s (k ∷ ks) a live =
-    leasts-live g rs (after s k) ks (a .1) (greedy-live g rs s k (a .0 .legal) (λ l h x. a .0 .least l h tt (ahead x)) live)
 
 module _ (g : Graph) (wf : WellFormed g) (rs : List ℕ) (size : suc (length rs) ≡ length (g .nodes)) (known : (r : ℕ) → r ∈ rs → r < length (g .firstEnds))
     (ks : List Key) (a : Leasts g rs (start g) ks) where

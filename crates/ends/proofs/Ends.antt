@@ -1,4 +1,4 @@
--- The arrays of ends, place by place (`Filled`); of an accepted file, their first m places are the ends of its graph (`first-part`, `second-part`).
+-- Of an accepted file, the first m places of the arrays of ends are the ends of its graph (`first-part`, `second-part`).
 -- The members of the word of the nodes (`nodes-has`, `nodes-graph`).
 use mathlib.Core.Path.{_∙_, _≡_, refl, subst, sym}
 use mathlib.Core.Logic.{_↔_, inl, inr, ⊎-elim}
@@ -9,8 +9,8 @@ use native.Mathlib.Numerals.{add-one}
 use native.Mathlib.Omega.{arith}
 use lib.Bits.{bitOr}
 use lib.Dec.{T}
-use lib.ListN.{List·getD-map, getD, length, length-map, length-set, set, take}
-use lib.Seq.{ext-getD, getD-set-other, getD-set-same, getD-take, length-take-le}
+use lib.ListN.{List·getD-map, getD, length, length-map, take}
+use lib.Seq.{ext-getD, getD-take, length-take-le}
 use Rattle.lists.specs.Lists.{range}
 use Rattle.lists.proofs.Members.{_∈_, range-in, range-out}
 use Rattle.lists.proofs.Ranges.{getD-map-range, range-length}
@@ -25,28 +25,9 @@ use Rattle.ends.specs.Ends.{endsBy, nodesWord}
 -- Ends
 
 module _ (side : Row → ℕ) (f : List ℕ) where
-  -- the first r places hold the ends of their rows
-  pub record Filled (ends : List ℕ) (r : ℕ) : Type 0 where
-    pub whole : length ends ≡ 256
-    pub filled : (i : ℕ) → i < r → getD ends i 0 ≡ side (rowAt (networkOf f) i)
-
-  pub filled-next : (ends : List ℕ) (r a : ℕ) → r < 256 → a ≡ side (rowAt (networkOf f) r) → Filled ends r → Filled (set ends r a) (r + 1)
-  filled-next ends r a h e at = record {
-    whole = simp length-set (at .whole);
-    filled = λ i l. elim (ℕ-discrete i r) [
-      | yes d ↦ rw d (getD-set-same ends r a 0 (omega arith) ∙ e)
-      | no d ↦ getD-set-other ends r i a 0 d ∙ at .filled i (omega arith)
-    ];
-  }
-
   pub ends-length : length (endsBy side f) ≡ 256
   unfolding endsBy
   ends-length = length-map (range 0 256) (λ r. side (rowAt (networkOf f) r)) ∙ range-length 0 256
-
-  pub filled-all : (ends : List ℕ) (r : ℕ) → 256 ≤ r → Filled ends r → ends ≡ endsBy side f
-  unfolding endsBy
-  filled-all ends r h at = ext-getD 0 ends (endsBy side f) (at .whole ∙ sym ends-length)
-      (λ i l. at .filled i (omega arith) ∙ sym (getD-map-range (λ r. side (rowAt (networkOf f) r)) 256 i 0 (omega arith)))
 
   ends-part : side noRow ≡ 0 → Accepted f → take (sizesOf f .m) (endsBy side f) ≡ map side (networkOf f .rows)
   unfolding endsBy

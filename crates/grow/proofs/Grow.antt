@@ -18,11 +18,10 @@ use Rattle.lists.proofs.Members.{_∈_, _⊆_, not-snoc, range-out, snoc-new, s
 use Rattle.lists.proofs.Tests.{T-both, T-either}
 use Rattle.graph.specs.Graph.{Graph, rowNumbers}
 use Rattle.graph.specs.Paths.{Key}
-use Rattle.graph.proofs.Growth.{Legal, Live, Reaches, State, after, bound, greedy-live, pivot-below, some-step, start}
-use Rattle.graph.proofs.Keys.{ahead}
+use Rattle.graph.proofs.Growth.{Legal, Live, Reaches, State, after, bound, pivot-below, some-step, start}
 use Rattle.graph.proofs.Least.{AnyKey, Least, LeastCompletion, Sound, sound-after}
 use Rattle.graph.proofs.Minimal.{sound-start}
-use Rattle.graph.proofs.Walk.{Leasts, Legals, least-all, leasts-legal, sound-walk, stateAfter, stateAfter-length}
+use Rattle.graph.proofs.Walk.{Leasts, Legals, least-all, leasts-legal, leasts-live, sound-walk, stateAfter, stateAfter-length}
 use Rattle.words.specs.Words.{bit, has, minus}
 use Rattle.words.proofs.Words.{bit-in, bit-out, has-minus, has-or}
 use Rattle.spread.proofs.Ready.{Charted, Ready}
@@ -112,11 +111,6 @@ step-kept {g} {s} {k} keys few e room h =
 pub entered-step : {plant : ℕ} {entered : List ℕ} (keys : List Key) (k : Key) → entered ≡ enteredBy plant keys
     → entered ++ (k .node ∷ []) ≡ enteredBy plant (keys ++ (k ∷ []))
 entered-step {plant} keys k e = rw (e, map-append (λ (k : Key). k .node) keys (k ∷ []))
-
-leasts-live : (g : Graph) (rs : List ℕ) (s : State) (ks : List Key) → Leasts g rs s ks → Live g rs s → Live g rs (stateAfter s ks)
-leasts-live g rs s [] a live = live
-leasts-live g rs s (k ∷ ks) a live =
-    leasts-live g rs (after s k) ks (a .1) (greedy-live g rs s k (a .0 .legal) (λ l h x. a .0 .least l h tt (ahead x)) live)
 
 -- `answer` is `keys` and least legal steps behind them, as many as asked or up to where there is none
 pub record Grown (g : Graph) (s : State) (keys answer : List Key) (steps : ℕ) : Type 0 where

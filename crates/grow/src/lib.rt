@@ -98,5 +98,9 @@ pub fn open_past(
     let nodes = path.nodes;
     let n = path.length() + 1;
     let seeds = spread::seeds(neighbours, fresh, &nodes[..n], place, node);
+    // the spread keeps the seeds
+    if words::has(seeds, node) {
+        return true;
+    }
     words::has(spread::spread(neighbours, limit, fresh, seeds), node)
 }

@@ -1,12 +1,14 @@
--- Tests and functions over a range of numbers, as a loop that counts up meets them.
-use mathlib.Core.Path.{_∙_, _≡_, ap, refl}
+-- Tests and functions over a range of numbers, as a loop that counts up meets them, and lists that it writes place by place (`Written`).
+use mathlib.Core.Path.{_∙_, _≡_, ap, refl, sym}
 use mathlib.Core.Bool.{Bool, false, true}
-use mathlib.Core.List.{map}
+use mathlib.Core.List.{List, map}
 use Prim.Native.Nat.{_+_, _-_, _<_, _≤_, suc, zero, ℕ}
+use native.Mathlib.Decide.{ℕ-discrete}
 use native.Mathlib.Nat.{zero-add}
 use native.Mathlib.Numerals.{add-one}
 use native.Mathlib.Omega.{arith}
-use lib.ListN.{List·getD-eq-default, getD, length, length-map}
+use lib.ListN.{List·getD-eq-default, getD, length, length-map, length-set, set}
+use lib.Seq.{ext-getD, getD-set-other, getD-set-same}
 use Rattle.lists.specs.Lists.{all, both, range}
 
 pub range-length : (from n : ℕ) → length (range from n) ≡ n
@@ -55,3 +57,29 @@ module _ {A : Type 0} (f : ℕ → A) where
 
   pub getD-map-past : (m r : ℕ) (d : A) → m ≤ r → getD (map f (range 0 m)) r d ≡ d
   getD-map-past m r d h = List·getD-eq-default (map f (range 0 m)) d (omega (arith, length-map (range 0 m) f, range-length 0 m))
+
+-- A list of n places that is written place by place: the first r hold what f gives
+
+pub record Written {A : Type 0} (f : ℕ → A) (none : A) (n : ℕ) (l : List A) (r : ℕ) : Type 0 where
+  pub whole : length l ≡ n
+  pub within : r ≤ n
+  pub holds : (i : ℕ) → i < r → getD l i none ≡ f i
+
+module _ {A : Type 0} {f : ℕ → A} {none : A} {n : ℕ} where
+  pub written-start : (l : List A) → length l ≡ n → Written f none n l 0
+  written-start l e = record { whole = e; within = omega arith; holds = λ i h. absurd (omega arith) }
+
+  module _ {l : List A} {r : ℕ} (so : Written f none n l r) where
+    pub written-next : (a : A) → r < n → a ≡ f r → Written f none n (set l r a) (r + 1)
+    written-next a h e = record {
+      whole = simp length-set (so .whole);
+      within = omega arith;
+      holds = λ i k. elim (ℕ-discrete i r) [
+        | yes d ↦ rw d (getD-set-same l r a none (omega arith) ∙ e)
+        | no d ↦ getD-set-other l r i a none d ∙ so .holds i (omega arith)
+      ];
+    }
+
+    pub written-all : n ≤ r → l ≡ map f (range 0 n)
+    written-all h = ext-getD none l (map f (range 0 n)) (so .whole ∙ sym (length-map (range 0 n) f ∙ range-length 0 n))
+        (λ i k. so .holds i (omega arith) ∙ sym (getD-map-range f n i none (omega arith)))

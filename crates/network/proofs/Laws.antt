@@ -16,8 +16,9 @@ use Rattle.lists.specs.Lists.{all, range}
 use Rattle.checks.proofs.Checks.{checked-next, checked-stop}
 use Rattle.checks.specs.Checks.{Check, Outcome, checked}
 use Rattle.costs.specs.Costs.{costAt}
-use Rattle.costs.specs.Network.{noRow, rowAt}
+use Rattle.costs.specs.Network.{rowAt}
 use Rattle.network.specs.Answers.{kindIn, openedOf, rowWith}
+use Rattle.network_file.proofs.Accepted.{row-in, row-past}
 use Rattle.network_file.specs.File.{Sizes, bodyMet, byteAt, costsMet, costsSound, endsMet, endsSound, fileChecks, isKind, kindBytes, kindOf, kindsMet, networkOf, openOf, rowIn, rowStart, sizesMet, sizesOf, u16At, u32At, within}
 use Rattle.network.specs.declared.ByteKind.the-variants.{Added, Closing, Unknown, Worst}
 use Rattle.network.specs.declared.ByteKind.{ByteKind}
@@ -34,17 +35,9 @@ row-reach row m k h a b = mul-le-mul {n₁ = row} {m₁ = 4 + 4 * k} {n₂ = 655
 -- Rows and costs of the file's network
 
 module _ (f : List ℕ) (r : ℕ) where
-  row-in : r < sizesOf f .m → rowAt (networkOf f) r ≡ rowIn f r
-  unfolding networkOf
-  row-in h = getD-map-range (rowIn f) (sizesOf f .m) r noRow h
-
-  row-past : sizesOf f .m ≤ r → rowAt (networkOf f) r ≡ noRow
-  unfolding networkOf
-  row-past h = getD-map-past (rowIn f) (sizesOf f .m) r noRow h
-
   cost-in : (c : ℕ) → r < sizesOf f .m → c < sizesOf f .k → costAt (networkOf f) c r ≡ u32At f (rowStart f r + 4 + 4 * c)
   unfolding rowIn
-  cost-in c h l = rw (row-in h) (getD-map-range (λ c. u32At f (rowStart f r + 4 + 4 * c)) (sizesOf f .k) c 0 l)
+  cost-in c h l = rw (row-in f r h) (getD-map-range (λ c. u32At f (rowStart f r + 4 + 4 * c)) (sizesOf f .k) c 0 l)
 
 -- where the code's header, the sizes s, has row r
 abbrev startBy : Sizes → ℕ → ℕ

@@ -6,7 +6,7 @@ ghost use Prim.Native.Nat.{_+_, _*_, _<_, _≤_};
 ghost use Rattle.costs.specs.Costs.{costAt};
 ghost use Rattle.costs.specs.Network.{rowAt};
 ghost use Rattle.network.specs.Answers.{kindIn, openedOf, rowWith, sizesIn};
-ghost use Rattle.network_file.specs.File.{bodyMet, byteAt, costsMet, costsSound, endsMet, endsSound, kindOf, kindsMet, lengthMet, networkOf, openIf, openOf, rowIn, sizesMet, sizesOf, u16At, u32At, versionMet, within};
+ghost use Rattle.network_file.specs.File.{bodyMet, costsMet, costsSound, endsMet, endsSound, kindOf, kindsMet, lengthMet, networkOf, openIf, openOf, rowIn, sizesMet, sizesOf, u16At, u32At, versionMet, within};
 
 /// The nodes, the rows and the criteria of a network file.
 pub struct Header {
@@ -36,13 +36,6 @@ pub struct Row {
     pub street: u16,
 }
 
-/// The byte at a place; 0 past the end.
-pub fn byte_at(file: &[u8], at: usize) -> u8
-    ensures { λ r. ⌜ r ≡ byteAt (now (file .entry)) at ⌝ }
-{
-    if at < file.len() { file[at] } else { 0 }
-}
-
 fn u16_of(high: u8, low: u8) -> u16
     ensures { λ r. ⌜ r ≡ high * 256 + low ⌝ }
 {
@@ -59,7 +52,7 @@ fn u16_at(file: &[u8], at: usize) -> u16
     requires { ⌜ at ≤ 1000000000 ⌝ }
     ensures { λ r. ⌜ r ≡ u16At (now (file .entry)) at ⌝ }
 {
-    u16_of(byte_at(file, at), byte_at(file, at + 1))
+    u16_of(slices::byte_at(file, at), slices::byte_at(file, at + 1))
 }
 
 fn u32_at(file: &[u8], at: usize) -> u32
@@ -74,9 +67,9 @@ pub fn header_of(file: &[u8]) -> Header
     ensures { λ r. ⌜ sizesIn r ≡ sizesOf (now (file .entry)) ⌝ }
 {
     Header {
-        n: byte_at(file, 5),
+        n: slices::byte_at(file, 5),
         m: u16_at(file, 6),
-        k: byte_at(file, 8),
+        k: slices::byte_at(file, 8),
     }
 }
 
@@ -102,8 +95,8 @@ pub fn row_at(file: &[u8], row: usize) -> Row
     if row < m {
         let at = 9 + k + row * (4 + 4 * k);
         Row {
-            first: byte_at(file, at),
-            second: byte_at(file, at + 1),
+            first: slices::byte_at(file, at),
+            second: slices::byte_at(file, at + 1),
             street: u16_at(file, at + 2),
         }
     } else {
@@ -135,7 +128,7 @@ fn version_met(file: &[u8]) -> bool
     ensures { λ r. ⌜ r ≡ versionMet (now (file .entry)) ⌝ }
 {
     if 0 < file.len() {
-        byte_at(file, 0) == 1
+        slices::byte_at(file, 0) == 1
     } else {
         false
     }
@@ -184,10 +177,10 @@ fn body_met(file: &[u8]) -> bool
 fn kinds_met(file: &[u8]) -> bool
     ensures { λ r. ⌜ r ≡ kindsMet (now (file .entry)) ⌝ }
 {
-    let k = byte_at(file, 8) as usize;
+    let k = slices::byte_at(file, 8) as usize;
     let mut c: usize = 0;
     while c < k {
-        let kind = kind_of(byte_at(file, 9 + c));
+        let kind = kind_of(slices::byte_at(file, 9 + c));
         if let ByteKind::Unknown = kind {
             return false;
         }
@@ -232,7 +225,7 @@ fn costs_sound(file: &[u8], row: usize) -> bool
     requires { ⌜ row < sizesOf (now file) .m ⌝ }
     ensures { λ r. ⌜ r ≡ costsSound (rowIn (now (file .entry)) row) ⌝ }
 {
-    let k = byte_at(file, 8) as usize;
+    let k = slices::byte_at(file, 8) as usize;
     let mut c: usize = 0;
     while c < k {
         if 1000000 < cost_at(file, c, row) {

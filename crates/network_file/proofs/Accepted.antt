@@ -17,7 +17,7 @@ use Rattle.lists.proofs.Tests.{T-both, T-true}
 use Rattle.checks.specs.Checks.{Check, firstUnmet}
 use Rattle.checks.proofs.Checks.{met-all}
 use Rattle.costs.specs.Costs.{costAt}
-use Rattle.costs.specs.Network.{Kind, Row, rowAt}
+use Rattle.costs.specs.Network.{Kind, Row, noRow, rowAt}
 use Rattle.network_file.specs.File.{bodyMet, byteAt, consKind, costsMet, costsSound, endsMet, endsSound, fileChecks, isKind, kindBytes, kindOf, kindsMet, kindsOf, lengthField, lengthMet, networkOf, rowBytes, rowIn, sizesMet, sizesOf, within}
 
 -- both ends of a row are nodes, and they differ
@@ -50,6 +50,10 @@ pub row-in : (f : List ℕ) (r : ℕ) → r < sizesOf f .m → rowAt (networkOf 
 unfolding networkOf
 row-in f r h = getD-map-range (rowIn f) (sizesOf f .m) r _ h
 
+pub row-past : (f : List ℕ) (r : ℕ) → sizesOf f .m ≤ r → rowAt (networkOf f) r ≡ noRow
+unfolding networkOf
+row-past f r h = getD-map-past (rowIn f) (sizesOf f .m) r _ h
+
 within-out : (low high x : ℕ) → T (within low high x) → (low ≤ x) × (x ≤ high)
 within-out low high x t = let (a, b) = T-both (leb low x) (leb x high) .0 t in (leb→le low x a, leb→le x high b)
 
@@ -79,8 +83,7 @@ kinds-length (b ∷ bs) t =
 
 -- a row that the network lacks has no costs
 past-costs : (f : List ℕ) (c r : ℕ) → sizesOf f .m ≤ r → costAt (networkOf f) c r ≡ 0
-unfolding networkOf
-past-costs f c r h = ap (λ (row : Row). getD (row .costs) c 0) (getD-map-past (rowIn f) (sizesOf f .m) r _ h)
+past-costs f c r h = ap (λ (row : Row). getD (row .costs) c 0) (row-past f r h)
 
 -- a cost that a sound row has, or 0 where it has none
 sound-cost : (l : List ℕ) (c : ℕ) → T (all (λ x. leb x 1000000) l) → getD l c 0 ≤ 1000000

@@ -6,7 +6,7 @@ use native.Mathlib.Omega.{arith}
 use Rattle.lists.specs.Lists.{largest}
 use Rattle.lists.proofs.Distinct.{Distinct}
 use Rattle.lists.proofs.Members.{_∈_, _⊆_}
-use Rattle.costs.specs.Costs.{addedCost, closingCost, costAt, costBy, costOf, costsFrom, worstCost}
+use Rattle.costs.specs.Costs.{addedCost, costAt, costBy, costOf, costsFrom}
 use Rattle.costs.specs.Network.{Kind, Network, added, closing, worst}
 use Rattle.forests.proofs.Minimum.{weight-part}
 use Rattle.bounds.proofs.Closing.{closing-added}

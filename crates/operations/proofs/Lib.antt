@@ -1,4 +1,5 @@
 pub mod Files
+pub mod Over
 pub mod Costs
 pub mod Runs
 pub mod Passing

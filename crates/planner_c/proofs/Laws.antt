@@ -1,29 +1,28 @@
 -- Laws of the calls: places written one after the other, and what a call comes to by its outcome.
 use Prim.Native.Nat.{_+_, _<_, _≤_, ℕ}
-use mathlib.Core.Path.{_≡_, _∙_, ap, refl, sym}
+use mathlib.Core.Path.{_≡_, _∙_, ap, sym}
 use mathlib.Core.Bool.{and-false}
-use mathlib.Core.List.{List, [], _++_, _∷_}
-use lib.ListN.{getD, length, length-set, length-take, set, take}
-use lib.Seq.{length-take-le, take-all, take-nil, take-suc}
-use native.Mathlib.Numerals.{add-one}
+use mathlib.Core.List.{List, [], _∷_}
+use lib.ListN.{getD, length, length-set, set, take}
+use lib.Seq.{take-all, take-nil}
 use native.Mathlib.Omega.{arith}
 use borrow.Author.Tests.{le-ltb, lt-leb, lt-ltb}
 use Rattle.checks.specs.Checks.{Ended, Outcome, answered, refused}
 use Rattle.operations.specs.Operations.{over, pickCall}
+use Rattle.operations.proofs.Over.{over-next}
 use Rattle.planner_c.specs.Calls.{answering, answeringBeside, ending, plannerPick}
 
--- the next place after those that are written
-pub over-next : (values answer : List ℕ) (x : ℕ) → length values < length answer → set (over values answer) (length values) x ≡ over (values ++ (x ∷ [])) answer
-over-next [] [] x h = absurd (omega arith)
-over-next [] (y ∷ answer) x h = refl
-over-next (v ∷ values) [] x h = absurd (omega arith)
-over-next (v ∷ values) (y ∷ answer) x h = ap (λ l. v ∷ l) (over-next values answer x (omega arith))
-
 pub over-two : (answer : List ℕ) (x y : ℕ) → 2 ≤ length answer → set (set answer 0 x) 1 y ≡ over (x ∷ y ∷ []) answer
-over-two answer x y enough = ap (λ l. set l 1 y) (over-next [] answer x (omega arith)) ∙ over-next (x ∷ []) answer y (omega arith)
+over-two answer x y enough =
+    ap (λ l. set l 1 y) (over-next (x ∷ y ∷ []) answer 0 (omega arith) (omega arith)) ∙ over-next (x ∷ y ∷ []) answer 1 (omega arith) (omega arith)
 
 pub over-three : (answer : List ℕ) (x y z : ℕ) → 3 ≤ length answer → set (set (set answer 0 x) 1 y) 2 z ≡ over (x ∷ y ∷ z ∷ []) answer
-over-three answer x y z enough = ap (λ l. set l 2 z) (over-two answer x y (omega arith)) ∙ over-next (x ∷ y ∷ []) answer z (omega arith)
+over-three answer x y z enough =
+    ap (λ l. set l 2 z) (over-two answer x y (omega arith)) ∙ over-next (x ∷ y ∷ z ∷ []) answer 2 (omega arith) (omega arith)
+
+-- two values that are equal one by one
+pub two-same : {x x′ y y′ : ℕ} → x ≡ x′ → y ≡ y′ → x′ ∷ y′ ∷ [] ≡ x ∷ y ∷ []
+two-same p q = rw (p, q)
 
 -- a part that is being copied: the first i places are there
 pub record Copied (part before out : List ℕ) (i : ℕ) : Type 0 where
@@ -32,12 +31,6 @@ pub record Copied (part before out : List ℕ) (i : ℕ) : Type 0 where
   pub same : length out ≡ length before
   pub holds : out ≡ over (take i part) before
 
-pub copy-next : (part out : List ℕ) (i : ℕ) → i < length part → i < length out → set (over (take i part) out) i (getD part i 0) ≡ over (take (i + 1) part) out
-copy-next part out i some fits =
-    ap (λ k. set (over (take i part) out) k (getD part i 0)) (sym (length-take-le i part (omega arith)))
-    ∙ over-next (take i part) out (getD part i 0) (simp length-take (omega arith))
-    ∙ ap (λ l. over l out) (sym (take-suc part i 0 some) ∙ ap (λ k. take k part) (sym (add-one i)))
-
 -- a place more
 pub copied-next : (part before out : List ℕ) (i : ℕ) → Copied part before out i → i < length part → i < length out → Copied part before (set out i (getD part i 0)) (i + 1)
 copied-next part before out i c some fits =
@@ -45,7 +38,7 @@ copied-next part before out i c some fits =
       some = omega arith;
       fits = omega (arith, c .same);
       same = length-set out i _ ∙ c .same;
-      holds = ap (λ l. set l i (getD part i 0)) (c .holds) ∙ copy-next part before i some (omega (arith, c .same));
+      holds = ap (λ l. set l i (getD part i 0)) (c .holds) ∙ over-next part before i some (omega (arith, c .same));
     }
 
 -- all that fits

@@ -1,18 +1,14 @@
 -- What a turn of each loop does to what is computed: the words only grow, stay below 2 ^ 64, and sweeps end.
 use mathlib.Core.Path.{_∙_, _≡_, ap, sym}
 use mathlib.Core.Logic.{⊎-elim}
-use mathlib.Core.List.{List, map}
+use mathlib.Core.List.{List}
 use Prim.Native.Nat.{_+_, _-_, _<_, _^_, _≤_, suc, zero, ℕ}
-use native.Mathlib.Decide.{ℕ-discrete}
 use native.Mathlib.Numerals.{add-one}
 use native.Mathlib.Omega.{arith}
 use lib.Bits.{and-le-r, bitAnd, bitOr, or-lt, or-zero-r}
 use lib.Dec.{T, eqb, eqb→eq}
-use lib.ListN.{getD, length, length-map, set}
-use lib.Seq.{ext-getD, getD-set-other, getD-set-same}
+use lib.ListN.{getD, length}
 use borrow.Author.Tests.{eq-eqb, le-ltb, lt-ltb, ne-eqb}
-use Rattle.lists.specs.Lists.{range}
-use Rattle.lists.proofs.Ranges.{getD-map-range, range-length}
 use Rattle.lists.proofs.Tests.{T-false, T-true, decide, eq→eqb, pick-elim}
 use Rattle.words.specs.Words.{above, has}
 use Rattle.words.proofs.Words.{or-assoc, or-le}
@@ -22,19 +18,6 @@ pub neighbours-more : (firsts seconds : List ℕ) (u r : ℕ)
     → withRow (neighbourWord firsts seconds u r) (getD firsts r 0) (getD seconds r 0) u ≡ neighbourWord firsts seconds u (r + 1)
 unfolding neighbourWord
 neighbours-more firsts seconds u r = rw add-one
-
--- a list that is written place by place
-module _ (f : ℕ → ℕ) where
-  pub table-more : (l : List ℕ) (u a : ℕ) → u < length l → a ≡ f u → ((v : ℕ) → v < u → getD l v 0 ≡ f v)
-      → (v : ℕ) → v < u + 1 → getD (set l u a) v 0 ≡ f v
-  table-more l u a h e at v i = elim (ℕ-discrete v u) [
-    | yes d ↦ rw d (getD-set-same l u a 0 h ∙ e)
-    | no d ↦ getD-set-other l u v a 0 d ∙ at v (omega arith)
-  ]
-
-  pub table-whole : (l : List ℕ) (n : ℕ) → length l ≡ n → ((v : ℕ) → v < n → getD l v 0 ≡ f v) → l ≡ map f (range 0 n)
-  table-whole l n e at = ext-getD 0 l (map f (range 0 n)) (e ∙ sym (length-map (range 0 n) f ∙ range-length 0 n))
-      (λ v h. at v (omega arith) ∙ sym (getD-map-range f n v 0 (omega arith)))
 
 module _ (nb : List ℕ) (fresh : ℕ) where
   -- The seeds

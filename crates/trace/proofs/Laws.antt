@@ -1,74 +1,141 @@
--- The place of a node by a search from place 0 on, and whether a node is entered by its place. Assumes nothing.
-use mathlib.Core.Path.{_≡_, sym}
-use mathlib.Core.Bool.{false, true}
-use mathlib.Core.List.{List, [], _∷_, List·Memᴰ·head as here, List·Memᴰ·tail as there}
-use Prim.Native.Nat.{_+_, _<_, _≤_, suc, ℕ}
+-- The table of entries: the place at which a node is first entered, plus 1, and 0 where it is not entered. Assumes nothing.
+use mathlib.Core.Path.{_∙_, _≡_, ap, refl, sym}
+use mathlib.Core.Logic.{⊎-elim}
+use mathlib.Core.List.{List, [], _++_, _∷_, map-append, List·Memᴰ·head as here, List·Memᴰ·not-nil as mem-nil, List·Memᴰ·tail as there}
+use Prim.Native.Nat.{_+_, _-_, _<_, _≤_, min, suc, zero, ℕ}
 use native.Mathlib.Decide.{ℕ-discrete}
 use native.Mathlib.Numerals.{add-one}
 use native.Mathlib.Omega.{arith}
-use lib.ListN.{drop, drop-of-length-le, getD, length}
-use lib.Seq.{drop-cons}
-use Rattle.lists.proofs.Members.{_∈_, member-in, member-out}
-use Rattle.lists.proofs.Tests.{T-false, T-true}
-use Rattle.lists.specs.Lists.{member}
-use Rattle.graph.proofs.Places.{place-below, place-here, place-there}
+use lib.Dec.{ltb, ltb→lt}
+use lib.ListN.{drop, drop-of-length-le, getD, getD-replicate, length, length-map, length-replicate, length-set, replicate, set}
+use lib.Seq.{drop-cons, getD-set-other, getD-set-same}
+use borrow.Author.Tests.{le-ltb, lt-ltb}
+use Rattle.lists.proofs.Distinct.{mem?}
+use Rattle.lists.proofs.Members.{_∈_, length-snoc, member-in, member-out, not-snoc, snoc-new, snoc-old}
+use Rattle.lists.proofs.Tests.{T-false, T-true, decide, not-ltb→le}
+use Rattle.lists.specs.Lists.{member, pick}
+use Rattle.graph.proofs.Places.{place-here, place-new, place-old, place-there}
 use Rattle.graph.specs.Paths.{Key, placeOf}
 use Rattle.paths.specs.Path.{enteredBy, extendedBy}
-use Rattle.trace.specs.Trace.{keyBy, traceFrom}
+use Rattle.trace.specs.Trace.{endBy, entryAfter, keyBy, placeBy, traceFrom}
 
-module _ (l : List ℕ) (v : ℕ) where
-  -- the place among those from i on
-  unfoldable pub placeFrom : ℕ → ℕ
-  placeFrom i = i + placeOf (drop i l) v
+-- Entries
 
-  pub from-start : placeOf l v ≡ placeFrom 0
-  unfolding placeFrom
-  from-start = omega arith
+unfoldable pub entryOf : List ℕ → ℕ → ℕ
+entryOf l v = pick (member v l) (suc (placeOf l v)) 0
 
-  pub from-next : (i : ℕ) → i < length l → ¬ (getD l i 0 ≡ v) → placeFrom i ≡ placeFrom (i + 1)
-  unfolding placeFrom
-  from-next i h n = rw (add-one, drop-cons l i 0 h, place-there (getD l i 0) v (drop (suc i) l) n) (omega arith)
+entry-in : (l : List ℕ) (v : ℕ) → v ∈ l → entryOf l v ≡ suc (placeOf l v)
+unfolding entryOf
+entry-in l v m = rw (T-true (member v l) .0 (member-in m))
 
-  pub from-here : (i : ℕ) → i < length l → getD l i 0 ≡ v → placeFrom i ≡ i
-  unfolding placeFrom
-  from-here i h e = rw (drop-cons l i 0 h, place-here (getD l i 0) v (drop (suc i) l) e) (omega arith)
+entry-out : (l : List ℕ) (v : ℕ) → ¬ (v ∈ l) → entryOf l v ≡ 0
+unfolding entryOf
+entry-out l v f = rw (T-false (member v l) .0 (λ t. f (member-out v l t)))
 
-  pub from-end : (i : ℕ) → length l ≤ i → placeFrom i ≡ i
-  unfolding placeFrom placeOf
-  from-end i h = rw (drop-of-length-le l h) (omega arith)
-
-pub place-most : (l : List ℕ) (v : ℕ) → placeOf l v ≤ length l
+place-out : (l : List ℕ) (v : ℕ) → ¬ (v ∈ l) → placeOf l v ≡ length l
 unfolding placeOf
-place-most [] v = omega arith
-place-most (u ∷ l) v = elim (ℕ-discrete u v) [
-  | yes e ↦ omega (arith, place-here u v l e)
-  | no n ↦ omega (arith, place-there u v l n, place-most l v)
+place-out [] v f = refl
+place-out (u ∷ l) v f = place-there u v l (λ e. f (here (sym e))) ∙ ap suc (place-out l v (λ m. f (there m)))
+
+-- one node more: its entry, and those of the others
+entry-new : (l : List ℕ) (x i : ℕ) → length l ≡ i + 1 → i < 31 → entryOf (l ++ (x ∷ [])) x ≡ entryAfter (entryOf l x) i
+unfolding entryAfter
+entry-new l x i e h = elim (mem? ℕ-discrete x l) [
+  | yes m ↦ rw (entry-in (l ++ (x ∷ [])) x (snoc-old x m), entry-in l x m, place-old l x m, lt-ltb 0 (suc (placeOf l x)) (omega arith))
+  | no f ↦ rw (entry-in (l ++ (x ∷ [])) x (snoc-new l x), entry-out l x f, place-new l x f, lt-ltb i 31 h) (omega arith)
 ]
 
-place-in : (l : List ℕ) (v : ℕ) → placeOf l v < length l → v ∈ l
-unfolding placeOf
-place-in [] v h = absurd (omega arith)
-place-in (u ∷ l) v h = elim (ℕ-discrete u v) [
-  | yes e ↦ here (sym e)
-  | no n ↦ there (place-in l v (omega (arith, place-there u v l n)))
+entry-other : (l : List ℕ) (x v : ℕ) → ¬ (v ≡ x) → entryOf (l ++ (x ∷ [])) v ≡ entryOf l v
+entry-other l x v d = elim (mem? ℕ-discrete v l) [
+  | yes m ↦ rw (entry-in (l ++ (x ∷ [])) v (snoc-old x m), entry-in l v m, place-old l x m)
+  | no f ↦ rw (entry-out (l ++ (x ∷ [])) v (not-snoc l f d), entry-out l v f)
 ]
 
-pub member-below : (l : List ℕ) (v : ℕ) → placeOf l v < length l → member v l ≡ true
-member-below l v h = T-true (member v l) .0 (member-in (place-in l v h))
+entry-full : (e i : ℕ) → 31 ≤ i → entryAfter e i ≡ e
+unfolding entryAfter
+entry-full zero i h = rw (le-ltb i 31 h)
+entry-full (suc e) i h = rw (lt-ltb 0 (suc e) (omega arith))
 
-pub member-past : (l : List ℕ) (v : ℕ) → length l ≤ placeOf l v → member v l ≡ false
-member-past l v h = T-false (member v l) .0 (λ t. omega (arith, place-below l (member-out v l t)))
+-- The table of the entries of all nodes
 
--- The step of a row, from its entered end
+abbrev pub Table : List ℕ → List ℕ → Type 0
+Table entries l = (v : ℕ) → v < 256 → getD entries v 0 ≡ entryOf l v
 
-module _ (firsts seconds entered : List ℕ) (r a b i : ℕ) (first : a ≡ getD firsts r 0) (second : b ≡ getD seconds r 0) where
-  pub step-first : i ≡ placeOf entered a → i < length entered → record { place = i; node = b; row = r } ≡ keyBy firsts seconds entered r
+pub table-start : (n plant : ℕ) → n ≡ 256 → plant < n → Table (set (replicate n 0) plant 1) (plant ∷ [])
+table-start n plant e h v b = elim (ℕ-discrete v plant) [
+  | yes d ↦
+      rw d
+      (getD-set-same (replicate n 0) plant 1 0 (rw (length-replicate {A = ℕ} n 0) h)
+      ∙ sym (entry-in (plant ∷ []) plant (here refl) ∙ ap suc (place-here plant plant [] refl)))
+  | no d ↦ getD-set-other (replicate n 0) plant v 1 0 d ∙ (getD-replicate {A = ℕ} n v 0 0 (omega arith) ∙ sym (entry-other [] plant v d ∙ entry-out [] v mem-nil))
+]
+
+pub table-length : (n plant : ℕ) → length (set (replicate {A = ℕ} n 0) plant 1) ≡ n
+table-length n plant = length-set (replicate {A = ℕ} n 0) plant 1 ∙ length-replicate {A = ℕ} n 0
+
+module _ (plant i : ℕ) (keys : List Key) (k : Key) (size : length keys ≡ min i 31) where
+  entered-room : i < 31 → enteredBy plant (extendedBy keys k) ≡ enteredBy plant keys ++ (k .node ∷ [])
+  unfolding extendedBy
+  entered-room h = rw (lt-ltb (length keys) 31 (omega arith), map-append (λ (k : Key). k .node) keys (k ∷ []))
+
+  entered-full : 31 ≤ i → enteredBy plant (extendedBy keys k) ≡ enteredBy plant keys
+  unfolding extendedBy
+  entered-full h = rw (le-ltb (length keys) 31 (omega arith))
+
+  pub extended-size : length (extendedBy keys k) ≡ min (i + 1) 31
+  unfolding extendedBy
+  extended-size = ⊎-elim
+      (λ t. let h = ltb→lt i 31 t in rw (lt-ltb (length keys) 31 (omega arith)) (omega (arith, length-snoc keys k)))
+      (λ f. let h = not-ltb→le i 31 f in rw (le-ltb (length keys) 31 (omega arith)) (omega arith))
+      (decide (ltb i 31))
+
+  entered-size : length (enteredBy plant keys) ≡ min i 31 + 1
+  entered-size = omega (arith, length-map keys (λ (k : Key). k .node))
+
+  entry-is : entryOf (enteredBy plant (extendedBy keys k)) (k .node) ≡ entryAfter (entryOf (enteredBy plant keys) (k .node)) i
+  entry-is = ⊎-elim
+      (λ t. let h = ltb→lt i 31 t in rw (entered-room h) (entry-new (enteredBy plant keys) (k .node) i (omega (arith, entered-size)) h))
+      (λ f. let h = not-ltb→le i 31 f in rw (entered-full h, entry-full (entryOf (enteredBy plant keys) (k .node)) i h))
+      (decide (ltb i 31))
+
+  entry-stays : (v : ℕ) → ¬ (v ≡ k .node) → entryOf (enteredBy plant (extendedBy keys k)) v ≡ entryOf (enteredBy plant keys) v
+  entry-stays v d = ⊎-elim
+      (λ t. rw (entered-room (ltb→lt i 31 t)) (entry-other (enteredBy plant keys) (k .node) v d))
+      (λ f. rw (entered-full (not-ltb→le i 31 f)))
+      (decide (ltb i 31))
+
+  pub table-next : (entries : List ℕ) (x e : ℕ) → x ≡ k .node → e ≡ entryAfter (getD entries x 0) i → length entries ≡ 256 → x < 256
+      → Table entries (enteredBy plant keys) → Table (set entries x e) (enteredBy plant (extendedBy keys k))
+  table-next entries x e a b c h at v below = elim (ℕ-discrete v x) [
+    | yes d ↦ rw d (getD-set-same entries x e 0 (rw c h) ∙ (b ∙ (rw (at x h, a) (sym entry-is))))
+    | no d ↦ getD-set-other entries x v e 0 d ∙ (at v below ∙ sym (entry-stays v (λ q. d (q ∙ sym a))))
+  ]
+
+-- The step of a row, from the entries of its ends
+
+module _ (firsts seconds entered : List ℕ) (r i : ℕ) where
+  step-by : (a b : ℕ) → length entered ≡ min i 31 + 1
+      → _≡_ {A = Key}
+      (record { place = placeBy (entryOf entered a) (entryOf entered b) i; node = endBy (entryOf entered a) a b; row = r })
+      (pick (member a entered) (record { place = placeOf entered a; node = b; row = r }) (record { place = placeOf entered b; node = a; row = r }))
+  unfolding placeBy endBy
+  step-by a b size = elim (mem? ℕ-discrete a entered) [
+    | yes m ↦
+        let less : suc (placeOf entered a) - 1 ≡ placeOf entered a = omega arith in
+        rw (entry-in entered a m, T-true (member a entered) .0 (member-in m), lt-ltb 0 (suc (placeOf entered a)) (omega arith), less)
+    | no f ↦ rw (entry-out entered a f, T-false (member a entered) .0 (λ t. f (member-out a entered t))) (elim (mem? ℕ-discrete b entered) [
+      | yes m ↦
+          let less : suc (placeOf entered b) - 1 ≡ placeOf entered b = omega arith in
+          rw (entry-in entered b m, lt-ltb 0 (suc (placeOf entered b)) (omega arith), less)
+      | no g ↦ rw (entry-out entered b g, place-out entered b g, size)
+    ])
+  ]
+
+  pub step-is : (a b first second : ℕ) → a ≡ getD firsts r 0 → b ≡ getD seconds r 0 → first ≡ entryOf entered a → second ≡ entryOf entered b
+      → length entered ≡ min i 31 + 1
+      → record { place = placeBy first second i; node = endBy first a b; row = r } ≡ keyBy firsts seconds entered r
   unfolding keyBy
-  step-first e h = rw (← first, ← second, member-below entered a (omega arith), e)
-
-  pub step-second : i ≡ placeOf entered b → length entered ≤ placeOf entered a → record { place = i; node = a; row = r } ≡ keyBy firsts seconds entered r
-  unfolding keyBy
-  step-second e h = rw (← first, ← second, member-past entered a h, e)
+  step-is a b first second p q f s size = rw (f, s, ← p, ← q) (step-by a b size)
 
 -- The path of rows, one step after the other
 

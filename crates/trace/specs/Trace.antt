@@ -1,6 +1,7 @@
 -- The path that a sequence of rows makes, as a computation: each row is a step from its entered end to its other end.
 use mathlib.Core.List.{List, [], _∷_}
-use Prim.Native.Nat.{ℕ}
+use Prim.Native.Nat.{_+_, _-_, min, ℕ}
+use lib.Dec.{ltb}
 use lib.ListN.{getD}
 use Rattle.lists.specs.Lists.{member, pick}
 use Rattle.graph.specs.Paths.{Key, placeOf}
@@ -22,3 +23,16 @@ traceFrom firsts seconds plant keys (r ∷ rows) =
 
 abbrev pub traceOf : List ℕ → List ℕ → ℕ → List ℕ → List Key
 traceOf firsts seconds plant rows = traceFrom firsts seconds plant [] rows
+
+-- The same by a table: the entry of a node is the place at which it is first entered, plus 1, and 0 where it is not entered.
+-- `first` and `second` are the entries of the row's ends a and b, and i rows come before it.
+
+unfoldable pub endBy : ℕ → ℕ → ℕ → ℕ
+endBy first a b = pick (ltb 0 first) b a
+
+unfoldable pub placeBy : ℕ → ℕ → ℕ → ℕ
+placeBy first second i = pick (ltb 0 first) (first - 1) (pick (ltb 0 second) (second - 1) (min i 31 + 1))
+
+-- the entry of the node that the row enters, from its entry so far; a path has room for 31 steps
+unfoldable pub entryAfter : ℕ → ℕ → ℕ
+entryAfter entry i = pick (ltb 0 entry) entry (pick (ltb i 31) (i + 2) 0)

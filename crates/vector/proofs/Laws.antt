@@ -17,9 +17,10 @@ use Rattle.lists.proofs.Members.{filter-length}
 use Rattle.lists.proofs.Ranges.{getD-map-past, getD-map-range}
 use Rattle.graph.specs.Paths.{Key}
 use Rattle.costs.specs.Costs.{addedCost, costAt, inStreet, streetCost, worstCost}
-use Rattle.costs.specs.Network.{Network, noRow, rowAt}
+use Rattle.costs.specs.Network.{Network, rowAt}
 use Rattle.bounds.proofs.Limits.{added-most}
 use Rattle.network_file.specs.File.{Sizes, byteAt, kindOf, networkOf, rowIn, rowStart, sizesOf, u16At, u32At}
+use Rattle.network_file.proofs.Accepted.{row-in, row-past}
 use Rattle.network.specs.Answers.{kindIn}
 use Rattle.network.specs.declared.ByteKind.{ByteKind}
 use Rattle.paths.specs.Path.{keysOf, lengthOf}
@@ -111,13 +112,13 @@ module _ (f : List ℕ) (bytes : (i : ℕ) → Fits w8 (byteAt f i)) where
   word at = omega (arith, bytes at, bytes (at + 1), bytes (at + 2), bytes (at + 2 + 1))
 
   pub cost-word : (c r : ℕ) → costAt (networkOf f) c r ≤ 4294967295
-  unfolding networkOf rowIn
+  unfolding rowIn
   cost-word c r = elim (decLt r (sizesOf f .m)) [
-    | yes h ↦ rw (getD-map-range (rowIn f) (sizesOf f .m) r noRow h) (elim (decLt c (sizesOf f .k)) [
+    | yes h ↦ rw (row-in f r h) (elim (decLt c (sizesOf f .k)) [
       | yes l ↦ rw (getD-map-range (λ c. u32At f (rowStart f r + 4 + 4 * c)) (sizesOf f .k) c 0 l) (word _)
       | no l ↦ rw (getD-map-past (λ c. u32At f (rowStart f r + 4 + 4 * c)) (sizesOf f .k) c 0 (omega arith)) (omega arith)
     ])
-    | no h ↦ rw (getD-map-past (rowIn f) (sizesOf f .m) r noRow (omega arith)) (omega arith)
+    | no h ↦ rw (row-past f r (omega arith)) (omega arith)
   ]
 
   module _ {c : ℕ} {rows : List ℕ} {n i so : ℕ} (counted : Counted rows n) where

@@ -139,7 +139,7 @@ pub fn criterion_cost(file: &[u8], criterion: u8, path: Path) -> u64
     let header = network::header_of(file);
     let c = criterion as usize;
     if criterion < header.k {
-        let kind = network::kind_of(network::byte_at(file, 9 + c));
+        let kind = network::kind_of(slices::byte_at(file, 9 + c));
         match kind {
             ByteKind::Added => added(file, c, path),
             ByteKind::Worst => worst(file, c, path),

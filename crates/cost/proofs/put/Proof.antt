@@ -6,7 +6,7 @@ use lib.ListN.{length, take}
 use lib.Seq.{take-all}
 use Rattle.lists.proofs.Ascending.{getD-mem}
 use Rattle.operations.specs.Operations.{over}
-use Rattle.cost.proofs.Laws.{over-next}
+use Rattle.operations.proofs.Over.{over-next}
 use borrow.Author.Needs.{needs}
 use Rattle.cost.proofs.put.Statement.{statement}
 use Rattle.cost.proofs.put.Tie as tie
@@ -46,7 +46,7 @@ loop-less c = search needs
 loop-again : tie.Need-loop-again Inv-loop μ-loop
 loop-again c =
     let at = c .before .before .loop .inv in
-    (search needs, search needs, (rw (at .2)) ∙ over-next _ _ _ (c .before .loop-test .taken) (c .before .before .before .pre .0))
+    (search needs, search needs, (rw (at .2)) ∙ over-next _ _ _ (c .before .loop-test .taken) (omega arith))
 
 same-length : tie.Need-same-length Inv-loop μ-loop
 same-length c = search needs

@@ -1,6 +1,11 @@
+use mathlib.Core.Path.{_∙_, _≡_, sym}
 use native.Mathlib.Omega.{arith}
 use lib.ListN.{length-map, length-take}
+use Rattle.paths.specs.Path.{enteredBy, keysOf, plantOf}
 use Rattle.paths.proofs.Laws.{entered-is}
+use Rattle.lists.proofs.Tests.{T-true}
+use Rattle.spread.specs.Spread.{seedsOf}
+use Rattle.spread.proofs.Spreads.{spread-start}
 use Rattle.grow.specs.Grow.{openPast}
 use borrow.Author.Needs.{needs}
 use Rattle.grow.proofs.open_past.Statement.{statement}
@@ -25,20 +30,36 @@ slice-aggregate-seeds c =
 seeds-requires : tie.Need-seeds-requires
 seeds-requires c κs = search needs
 
-spread-requires : tie.Need-spread-requires
-spread-requires c κs = search needs
-
 has-requires : tie.Need-has-requires
 has-requires c κs = search needs
+
+-- the seeds, from the nodes that the path enters
+seeded : (c : tie.After-seeds)
+    → let a = c .before .before .before .before .before .args in
+    c .seeds .result ≡ seedsOf (a .neighbours .now) (a .fresh) (enteredBy (plantOf (a .path)) (keysOf (a .path))) (a .place) (a .node)
+seeded c =
+    let s = c .before .before .before .before .before in
+    let rows = simp length-map at (s .good .1 .1 .1 .0 .1 .1 .0 .1 .0 .1) in
+    let nodes = simp length-map at (s .good .1 .1 .1 .0 .1 .1 .1 .0 .1 .0 .1) in
+    let pivots = simp length-map at (s .good .1 .1 .1 .0 .1 .1 .1 .1 .0 .1 .0 .1) in
+    rw (← entered-is (s .args .path) nodes rows pivots, ← c .before .before .length .ensures) (c .seeds .ensures)
 
 returns : tie.Need-returns
 unfolding openPast
 returns c =
-    let rows = simp length-map at (c .before .before .before .before .before .before .before .good .1 .1 .1 .0 .1 .1 .0 .1 .0 .1) in
-    let nodes = simp length-map at (c .before .before .before .before .before .before .before .good .1 .1 .1 .0 .1 .1 .1 .0 .1 .0 .1) in
-    let pivots = simp length-map at (c .before .before .before .before .before .before .before .good .1 .1 .1 .0 .1 .1 .1 .1 .0 .1 .0 .1) in
-    let entered = entered-is (c .before .before .before .before .before .before .before .args .path) nodes rows pivots in
-    rw (← entered, ← c .before .before .before .before .length .ensures, c .has .ensures, c .before .spread .ensures, c .before .before .seeds .ensures)
+    let h = c .before in
+    let t = T-true _ .1 (sym (h .has .ensures) ∙ c .if1 .taken) in
+    rw (← seeded (h .before)) (sym (T-true _ .0 (spread-start _ _ _ _ _ t)))
+
+spread-requires : tie.Need-spread-requires
+spread-requires c κs = search needs
+
+has-requires-2 : tie.Need-has-requires-2
+has-requires-2 c κs = search needs
+
+returns-2 : tie.Need-returns-2
+unfolding openPast
+returns-2 c = rw (← seeded (c .before .before .before .before), c .has2 .ensures, c .before .spread .ensures)
 
 pub open-past-spec : {M : Type 1} → statement M
 open-past-spec =
@@ -49,6 +70,8 @@ open-past-spec =
     array-share-prefix-nodes
     slice-aggregate-seeds
     seeds-requires
-    spread-requires
     has-requires
-    returns)
+    returns
+    spread-requires
+    has-requires-2
+    returns-2)

@@ -1,10 +1,11 @@
 -- The loop's invariant: the first i places are written over the buffer.
 use mathlib.Core.Path.{_∙_, _≡_}
 use Prim.Native.Nat.{_-_, _≤_}
+use native.Mathlib.Omega.{arith}
 use lib.ListN.{length, take}
 use lib.Seq.{take-all}
 use Rattle.operations.specs.Operations.{over}
-use Rattle.order.proofs.Laws.{over-next}
+use Rattle.operations.proofs.Over.{over-next}
 use borrow.Author.Needs.{needs}
 use Rattle.order.proofs.put.Statement.{statement}
 use Rattle.order.proofs.put.Tie as tie
@@ -40,7 +41,7 @@ loop-less c = search needs
 loop-again : tie.Need-loop-again Inv-loop μ-loop
 loop-again c =
     let at = c .before .before .loop .inv in
-    (search needs, search needs, (rw (at .2)) ∙ over-next _ _ _ (c .before .loop-test .taken) (c .before .before .before .pre))
+    (search needs, search needs, (rw (at .2)) ∙ over-next _ _ _ (c .before .loop-test .taken) (omega arith))
 
 same-length : tie.Need-same-length Inv-loop μ-loop
 same-length c = search needs

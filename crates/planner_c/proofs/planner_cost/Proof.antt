@@ -24,14 +24,18 @@ same-length c = search needs
 
 returns : tie.Need-returns
 unfolding plannerCost
-returns c = ending-answered _ _ _ (c .before .before .before .before .cost .ensures) _ (ap costedOf (c .enum-told .given .1))
+returns c =
+    let ends = c .before .before .before .before .cost .ensures in
+    ending-answered _ _ _ ends _ (ap costedOf (c .enum-told .given .1))
 
 same-length-2 : tie.Need-same-length-2
 same-length-2 c = search needs
 
 returns-2 : tie.Need-returns-2
 unfolding plannerCost
-returns-2 c = ending-refused _ _ _ (c .before .before .before .before .before .cost .ensures) _ (ap costedOf (c .before .costed .given .1))
+returns-2 c =
+    let ends = c .before .before .before .before .before .cost .ensures in
+    ending-refused _ _ _ ends _ (ap costedOf (c .before .costed .given .1))
 
 pub planner-cost-spec : {M : Type 1} → statement M
 planner-cost-spec =

@@ -48,11 +48,15 @@ same-length c = search needs
 
 returns-2 : tie.Need-returns-2
 unfolding plannerOpen
-returns-2 c = answering-three sizeValues _ _ _ _ _ _ (c .before .before .before .before .before .before .before .if1 .left) (sym (c .before .before .before .before .before .before .«open» .ensures) ∙ ap openedOf (c .before .before .before .before .opened .given .1)) refl
+returns-2 c =
+    let at = c .before .before .before .before .before .before in
+    answering-three sizeValues _ _ _ _ _ _ (at .before .if1 .left) (sym (at .«open» .ensures) ∙ ap openedOf (c .before .before .before .before .opened .given .1)) refl
 
 returns-3 : tie.Need-returns-3
 unfolding plannerOpen
-returns-3 c = answering-refused sizeValues _ _ 3 _ (c .before .before .before .before .if1 .left) (sym (c .before .before .before .«open» .ensures) ∙ ap openedOf (c .before .opened2 .given .1))
+returns-3 c =
+    let at = c .before .before .before in
+    answering-refused sizeValues _ _ 3 _ (at .before .if1 .left) (sym (at .«open» .ensures) ∙ ap openedOf (c .before .opened2 .given .1))
 
 pub planner-open-spec : {M : Type 1} → statement M
 planner-open-spec =

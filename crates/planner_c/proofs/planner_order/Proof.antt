@@ -24,14 +24,18 @@ same-length c = search needs
 
 returns : tie.Need-returns
 unfolding plannerOrder
-returns c = ending-answered _ _ _ (c .before .before .before .before .order .ensures) _ (ap orderedOf (c .enum-told .given .1))
+returns c =
+    let ends = c .before .before .before .before .order .ensures in
+    ending-answered _ _ _ ends _ (ap orderedOf (c .enum-told .given .1))
 
 same-length-2 : tie.Need-same-length-2
 same-length-2 c = search needs
 
 returns-2 : tie.Need-returns-2
 unfolding plannerOrder
-returns-2 c = ending-refused _ _ _ (c .before .before .before .before .before .order .ensures) _ (ap orderedOf (c .before .ordered .given .1))
+returns-2 c =
+    let ends = c .before .before .before .before .before .order .ensures in
+    ending-refused _ _ _ ends _ (ap orderedOf (c .before .ordered .given .1))
 
 pub planner-order-spec : {M : Type 1} → statement M
 planner-order-spec =

@@ -2,7 +2,7 @@
 use mathlib.Core.Path.{ap}
 use Rattle.page.specs.Answers.{pagedOf}
 use Rattle.planner_c.specs.Calls.{pagedValues, plannerPage}
-use Rattle.planner_c.proofs.Laws.{beside-refused, beside-short, beside-two}
+use Rattle.planner_c.proofs.Laws.{beside-refused, beside-short, beside-two, two-same}
 use borrow.Author.Needs.{needs}
 use Rattle.planner_c.proofs.planner_page.Statement.{statement}
 use Rattle.planner_c.proofs.planner_page.Tie as tie
@@ -43,14 +43,19 @@ same-length-2 c = search needs
 
 returns-2 : tie.Need-returns-2
 unfolding plannerPage
-returns-2 c = beside-two pagedValues _ _ _ _ _ (c .before .before .before .before .before .before .before .page .ensures) _ _ _ (c .before .before .before .before .before .before .before .before .before .if1 .left) (ap pagedOf (c .before .before .before .paged .given .1)) (cc)
+returns-2 c =
+    let at = c .before .before .before .before .before .before .before in
+    beside-two pagedValues _ _ _ _ _ (at .page .ensures) _ _ _ (at .before .before .if1 .left) (ap pagedOf (c .before .before .before .paged .given .1))
+    (two-same (c .before .held-count .ensures) (c .digit-of .ensures))
 
 same-length-3 : tie.Need-same-length-3
 same-length-3 c = search needs
 
 returns-3 : tie.Need-returns-3
 unfolding plannerPage
-returns-3 c = beside-refused pagedValues _ _ _ _ _ (c .before .before .before .before .before .page .ensures) 2 _ (c .before .before .before .before .before .before .before .if1 .left) (ap pagedOf (c .before .paged2 .given .1))
+returns-3 c =
+    let at = c .before .before .before .before .before in
+    beside-refused pagedValues _ _ _ _ _ (at .page .ensures) 2 _ (at .before .before .if1 .left) (ap pagedOf (c .before .paged2 .given .1))
 
 pub planner-page-spec : {M : Type 1} → statement M
 planner-page-spec =

@@ -20,7 +20,9 @@ same-length : tie.Need-same-length
 same-length c = search needs
 
 returns-2 : tie.Need-returns-2
-returns-2 c = pick-copied _ _ _ _ _ _ (c .before .before .before .before .pick .ensures) (c .before .before .copy .ensures)
+returns-2 c =
+    let at = c .before .before in
+    pick-copied _ _ _ _ _ _ (at .before .before .pick .ensures) (at .copy .ensures)
 
 pub planner-pick-spec : {M : Type 1} → statement M
 planner-pick-spec =

@@ -34,11 +34,15 @@ same-length c = search needs
 
 returns-2 : tie.Need-returns-2
 unfolding plannerReach
-returns-2 c = answering-two reachedValues _ _ _ _ _ (c .before .before .before .before .if1 .left) (sym (c .before .before .before .reach .ensures) ∙ ap reachedOf (c .before .reached .given .1)) refl
+returns-2 c =
+    let at = c .before .before .before in
+    answering-two reachedValues _ _ _ _ _ (at .before .if1 .left) (sym (at .reach .ensures) ∙ ap reachedOf (c .before .reached .given .1)) refl
 
 returns-3 : tie.Need-returns-3
 unfolding plannerReach
-returns-3 c = answering-refused reachedValues _ _ 2 _ (c .before .before .before .before .if1 .left) (sym (c .before .before .before .reach .ensures) ∙ ap reachedOf (c .before .reached2 .given .1))
+returns-3 c =
+    let at = c .before .before .before in
+    answering-refused reachedValues _ _ 2 _ (at .before .if1 .left) (sym (at .reach .ensures) ∙ ap reachedOf (c .before .reached2 .given .1))
 
 pub planner-reach-spec : {M : Type 1} → statement M
 planner-reach-spec =
