@@ -1,6 +1,7 @@
 //! Measures the proved library beside plain Rust, both built for release, in one run, and prints a table. It tests nothing
 //! but that both list the same trees.
 
+mod front;
 mod networks;
 mod walk;
 
@@ -132,6 +133,26 @@ fn first_page(name: &str, network: &Network) {
     );
 }
 
+/// The rows of a front, as treelist has them.
+const FRONT_ROWS: usize = 512;
+
+fn compare_fronts(name: &str, network: &Network) {
+    let file = network.encode();
+    let (k, width) = (network.k(), network.width());
+    let mut costs = vec![0; FRONT_ROWS * k];
+    let mut witnesses = vec![0; FRONT_ROWS * width];
+    let mut answer = [0; 2];
+    let mut trees = 0;
+    plain_pages(network, &mut |page| trees += page.len() / width);
+    let [ours, theirs] = shortest(
+        || assert_eq!(ffi::front(&file, &mut costs, &mut witnesses, &mut answer), 0),
+        || drop(black_box(front::front(network))),
+    );
+    let expected: Vec<u32> = front::front(network).iter().flat_map(|(v, _)| v[..k].to_vec()).collect();
+    assert_eq!(costs[..answer[0] as usize * k], expected, "{name}: not the same front");
+    print_ratio(&format!("{name}: front of {}", answer[0]), trees, ours, theirs);
+}
+
 fn main() {
     println!("Page: the whole list in pages of {TREES_A_PAGE} trees, nanoseconds a tree");
     println!(
@@ -154,4 +175,10 @@ fn main() {
     first_page("star of 32 nodes, plant at the rim", &networks::star(32));
     first_page("line of 32 nodes by 8 rows each", &networks::line(32, 8));
     first_page("grid of 5 by 6 nodes", &networks::grid(5, 6, &[0]));
+    println!();
+    println!("Front: tables of {FRONT_ROWS} rows, nanoseconds a tree");
+    println!("{:36} {:>9} {:>12} {:>12} {:>8}", "", "trees", "library", "plain Rust", "ratio");
+    compare_fronts("complete graph of 7 nodes, two criteria", &networks::complete(7, &[0, 1]));
+    compare_fronts("random, 10 nodes and 25 rows, added and closing", &networks::random(10, 25, &[0, 2]));
+    compare_fronts("grid of 4 by 4 nodes, three criteria", &networks::grid(4, 4, &[0, 1, 2]));
 }

@@ -47,6 +47,17 @@ extern "C" {
         answer: *mut u32,
         answer_len: usize,
     ) -> u32;
+
+    fn planner_front(
+        file: *const u8,
+        file_len: usize,
+        costs: *mut u32,
+        costs_len: usize,
+        witnesses: *mut u16,
+        witnesses_len: usize,
+        answer: *mut u32,
+        answer_len: usize,
+    ) -> u32;
 }
 
 /// Open: 0 with n, m, k in the first three places of the answer, or the refusal's number.
@@ -102,6 +113,22 @@ pub fn page(file: &[u8], page: &mut [u16], start: &[u16], answer: &mut [u32]) ->
             page.len(),
             start.as_ptr(),
             start.len(),
+            answer.as_mut_ptr(),
+            answer.len(),
+        )
+    }
+}
+
+/// Front: 0 with the count and the mark, 1 for 'whole', in the first two places of the answer, or the refusal's number.
+pub fn front(file: &[u8], costs: &mut [u32], witnesses: &mut [u16], answer: &mut [u32]) -> u32 {
+    unsafe {
+        planner_front(
+            file.as_ptr(),
+            file.len(),
+            costs.as_mut_ptr(),
+            costs.len(),
+            witnesses.as_mut_ptr(),
+            witnesses.len(),
             answer.as_mut_ptr(),
             answer.len(),
         )

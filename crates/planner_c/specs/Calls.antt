@@ -2,14 +2,15 @@
 -- But for Pick the number is a code: 255 where the answer buffer is too short, before any check; else the number of the
 -- refusal, with every buffer as it was; else 0, with the answer's values in the first places.
 use mathlib.Core.Bool.{Bool, false, true}
+use mathlib.Core.Path.{_≡_}
 use mathlib.Core.List.{List, [], _∷_}
-use Prim.Native.Nat.{min, ℕ}
+use Prim.Native.Nat.{_<_, _≤_, min, ℕ}
 use lib.Dec.{ltb}
 use lib.ListN.{length, take}
 use Rattle.lists.specs.Lists.{pick}
 use Rattle.checks.specs.Checks.{Ended, Outcome, answered, refused}
 use Rattle.network_file.specs.File.{Sizes, openOf}
-use Rattle.operations.specs.Operations.{Paged, Reached, costCall, orderCall, over, pageCall, pickCall, reachCall}
+use Rattle.operations.specs.Operations.{Fronted, Paged, Reached, Witnesses, costCall, frontCall, orderCall, over, pageCall, pickCall, reachCall}
 
 pub record Called (B : Type 0) : Type 0 where
   pub code : ℕ
@@ -65,6 +66,9 @@ reachedValues r = r .word ∷ r .size ∷ []
 abbrev pub pagedValues : Paged → List ℕ
 pagedValues p = held (p .count) ∷ digit (p .more) ∷ []
 
+abbrev pub frontedValues : Fronted → List ℕ
+frontedValues a = held (a .count) ∷ digit (a .whole) ∷ []
+
 -- Open: n, m and k.
 unfoldable pub plannerOpen : List ℕ → List ℕ → Called (List ℕ)
 plannerOpen file answer = answering 3 sizeValues (openOf file) answer
@@ -90,3 +94,12 @@ plannerPick n page t out =
 -- Page: the count, and the mark, 1 for 'more'.
 unfoldable pub plannerPage : List ℕ → List ℕ → List ℕ → List ℕ → Called Both
 plannerPage file page start answer = answeringBeside 2 pagedValues (pageCall file page start) page answer
+
+-- Front, but for the witness table: the count, and the mark, 1 for 'whole'.
+unfoldable pub plannerFront : List ℕ → List ℕ → List ℕ → List ℕ → Called Both
+plannerFront file costs witnesses answer = answeringBeside 2 frontedValues (frontCall file costs witnesses) costs answer
+
+-- Front's witness table afterwards, `after`
+pub record FrontWitnesses (file costs witnesses answer after : List ℕ) : Type 0 where
+  pub short : length answer < 2 → after ≡ witnesses
+  pub listed : 2 ≤ length answer → Witnesses file costs witnesses after

@@ -1,6 +1,7 @@
 //! The library's functions for Rust and C: the Rust tests in tests/ call them. A slice passes as a pointer and a length.
 //! What each call returns and leaves in its buffers stands in specs/Calls.antt.
 use cost::Costed;
+use front::FrontAnswer;
 use network::Opened;
 use order::Ordered;
 use page::PageAnswer;
@@ -8,7 +9,7 @@ use reach::ReachAnswer;
 ghost use mathlib.Core.Path.{_≡_};
 ghost use lib.ListN.{length, take};
 ghost use Rattle.operations.specs.Operations.{over};
-ghost use Rattle.planner_c.specs.Calls.{digit, held, plannerCost, plannerOpen, plannerOrder, plannerPage, plannerPick, plannerReach};
+ghost use Rattle.planner_c.specs.Calls.{FrontWitnesses, digit, held, plannerCost, plannerFront, plannerOpen, plannerOrder, plannerPage, plannerPick, plannerReach};
 
 /// Open: 0 with n, m and k in the first three places of the answer; the refusal's number; or 255 where the answer has
 /// under three places.
@@ -139,5 +140,30 @@ pub extern "C" fn planner_page(
             0
         }
         PageAnswer::Refused(number) => number as u32,
+    }
+}
+
+/// Front: 0 with the count and the mark, 1 for 'whole', in the first two places of the answer; the refusal's number; or
+/// 255 where the answer has under two places.
+#[no_mangle]
+pub extern "C" fn planner_front(
+    file: &[u8],
+    costs: &mut [u32],
+    witnesses: &mut [u16],
+    answer: &mut [u32],
+) -> u32
+    ensures { λ r. ⌜ (record { code = r; buffers = record { table = now (costs .exit); answer = now (answer .exit) } } ≡ plannerFront (now (file .entry)) (now (costs .entry)) (now (witnesses .entry)) (now (answer .entry))) × FrontWitnesses (now (file .entry)) (now (costs .entry)) (now (witnesses .entry)) (now (answer .entry)) (now (witnesses .exit)) ⌝ }
+{
+    if answer.len() < 2 {
+        return 255;
+    }
+    let fronted = front::front(file, costs, witnesses);
+    match fronted {
+        FrontAnswer::Rows { count, whole } => {
+            answer[0] = held_count(count);
+            answer[1] = digit_of(whole);
+            0
+        }
+        FrontAnswer::Refused(number) => number as u32,
     }
 }

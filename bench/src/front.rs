@@ -1,0 +1,45 @@
+//! The front in plain Rust: each tree of the walk with its vector, entered in a sorted table.
+
+use planner_tests::file::Network;
+
+use crate::walk::Graph;
+
+/// A vector, with places to spare, and the first tree that has it.
+pub type Entry = ([u32; 4], [u16; 31]);
+
+/// The front: its vectors ascending.
+pub fn front(network: &Network) -> Vec<Entry> {
+    let graph = Graph::new(network);
+    let mut table: Vec<Entry> = Vec::new();
+    graph.walk(&mut |tree| {
+        let vector = vector(network, tree);
+        if table.iter().any(|(known, _)| no_larger(known, &vector)) {
+            return;
+        }
+        table.retain(|(known, _)| !no_larger(&vector, known));
+        let at = table.partition_point(|(known, _)| *known < vector);
+        let mut rows = [0; 31];
+        rows[..tree.len()].copy_from_slice(tree);
+        table.insert(at, (vector, rows));
+    });
+    table
+}
+
+/// Closing costs are sums too: the streets only say in which sequence they are added.
+fn vector(network: &Network, tree: &[u16]) -> [u32; 4] {
+    let mut vector = [0; 4];
+    for (criterion, &kind) in network.kinds.iter().enumerate() {
+        let costs = tree
+            .iter()
+            .map(|&row| network.rows[row as usize].costs[criterion]);
+        vector[criterion] = match kind {
+            1 => costs.fold(0, u32::max),
+            _ => costs.sum(),
+        };
+    }
+    vector
+}
+
+fn no_larger(v: &[u32; 4], w: &[u32; 4]) -> bool {
+    v.iter().zip(w).all(|(a, b)| a <= b)
+}

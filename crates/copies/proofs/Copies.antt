@@ -1,0 +1,31 @@
+-- What the loop copies fits both tables (`room-least`, `copied-is`); where all fits, all is copied (`copied-all`).
+use mathlib.Core.Path.{_∙_, _≡_, ap}
+use mathlib.Core.List.{List}
+use Prim.Native.Nat.{_+_, _-_, _≤_, min, ℕ}
+use native.Mathlib.Omega.{arith}
+use lib.ListN.{length}
+use lib.Seq.{paste}
+use Rattle.copies.specs.Copies.{copied, room}
+
+pub room-none : (table at places n : ℕ) → table ≤ at → 0 ≡ room table at places n
+unfolding room
+room-none table at places n h = omega arith
+
+pub room-some : (table at places n m : ℕ) → m ≡ min n (min places (table - at)) → m ≡ room table at places n
+unfolding room
+room-some table at places n m e = e
+
+pub room-least : (table at places n m : ℕ) → m ≡ room table at places n → (m ≤ places) × (m ≤ table - at)
+unfolding room
+room-least table at places n m e = (omega arith, omega arith)
+
+pub copied-is : (table : List ℕ) (at : ℕ) (places : List ℕ) (n m i : ℕ) (new : List ℕ) → m ≡ room (length table) at (length places) n → i ≡ m → new ≡ paste table at places i
+    → new ≡ copied table at places n
+unfolding copied
+copied-is table at places n m i new e f g = g ∙ ap (paste table at places) (f ∙ e)
+
+pub copied-all : (table : List ℕ) (at : ℕ) (places : List ℕ) (n : ℕ) → at + n ≤ length table → n ≤ length places → copied table at places n ≡ paste table at places n
+unfolding copied room
+copied-all table at places n fits there =
+    let all : min n (min (length places) (length table - at)) ≡ n = omega arith in
+    ap (paste table at places) all

@@ -1,0 +1,5 @@
+pub mod Turns
+pub mod Tables
+pub mod Vectors
+pub mod Given
+pub mod Calls

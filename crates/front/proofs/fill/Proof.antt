@@ -1,0 +1,33 @@
+-- `front::fill` meets its contract.
+use borrow.Author.Needs.{needs}
+use Rattle.front.proofs.fill.Statement.{statement}
+use Rattle.front.proofs.fill.Tie as tie
+
+neighbours-requires : tie.Need-neighbours-requires
+neighbours-requires c κs = search needs
+
+slice-aggregate-passes : tie.Need-slice-aggregate-passes
+slice-aggregate-passes c = search needs
+
+passes-requires : tie.Need-passes-requires
+passes-requires c κs = rw (c .before .before .before .neighbours .ensures) (c .before .before .before .before .before .before .before .before .before .pre)
+
+same-length : tie.Need-same-length
+same-length c = search needs
+
+same-length-2 : tie.Need-same-length-2
+same-length-2 c = search needs
+
+returns : tie.Need-returns
+returns c = search needs
+
+pub fill-spec : {M : Type 1} → statement M
+fill-spec =
+    tie.close
+    (tie.spec
+    neighbours-requires
+    slice-aggregate-passes
+    passes-requires
+    same-length
+    same-length-2
+    returns)

@@ -1,0 +1,59 @@
+-- What the functions below `front` are given and answer with: the walk of the file's graph (`Laid`), known rows in the lent tables (`KnownRows`),
+-- the rows behind them after a pass (`Passed`), and the tables after all passes (`Filled`).
+use mathlib.Core.Path.{_≡_}
+use mathlib.Core.Bool.{false, true}
+use mathlib.Core.List.{List}
+use Prim.Native.Nat.{_*_, _+_, _<_, _≤_, min, ℕ}
+use lib.Dec.{leb}
+use lib.ListN.{drop, length, take}
+use Rattle.checks.specs.Checks.{Outcome, answered}
+use Rattle.graph.specs.Graph.{rowNumbers}
+use Rattle.graph.proofs.Growth.{Live, start}
+use Rattle.costs.specs.Costs.{front}
+use Rattle.network_file.specs.File.{networkOf, sizesOf}
+use Rattle.network_file.proofs.Accepted.{Accepted}
+use Rattle.pages.specs.Pages.{flat, pieces}
+use Rattle.operations.specs.Operations.{Fronted, graphIn, over}
+use Rattle.passes.specs.Passes.{frontTrees}
+use Rattle.scratch.specs.declared.Scratch.{Scratch}
+use Rattle.walk.proofs.Behind.{Fitted}
+
+-- how many rows the scratch table has
+abbrev pub scratchRows : ℕ
+scratchRows = 64
+
+-- what the walk is given fits the graph of an accepted file, which has a spanning tree
+pub record Laid (f nb firsts seconds : List ℕ) (limit plant nodes width k : ℕ) : Type 0 where
+  pub accepted : Accepted f
+  pub fitted : Fitted (graphIn f) nb limit nodes width
+  pub first-ends : firsts ≡ graphIn f .firstEnds
+  pub second-ends : seconds ≡ graphIn f .secondEnds
+  pub planted : plant ≡ graphIn f .plant
+  pub criteria : k ≡ sizesOf f .k
+  pub joined : Live (graphIn f) (rowNumbers (graphIn f)) (start (graphIn f))
+
+-- the first n vectors of the front stand in a table
+pub record KnownRows (f : List ℕ) (k n : ℕ) (table : List ℕ) : Type 0 where
+  pub few : n ≤ length (front (networkOf f))
+  pub fits : n * k ≤ length table
+  pub vectors : pieces k n table ≡ take n (front (networkOf f))
+
+-- two tables of rows of k and of `width` places hold so many rows
+pub record Holding (rows k width : ℕ) (costs witnesses : List ℕ) : Type 0 where
+  pub costs-fit : rows * k ≤ length costs
+  pub trees-fit : rows * width ≤ length witnesses
+
+-- The rows behind the first n after a pass: the next of the front, each with its first tree. All, if no row was dropped; else some.
+pub record Passed (f : List ℕ) (k width n : ℕ) (s : Scratch) (costs witnesses : List ℕ) : Type 0 where
+  pub few : s .count ≤ scratchRows
+  pub within : n + s .count ≤ length (front (networkOf f))
+  pub vectors : pieces k (s .count) costs ≡ take (s .count) (drop n (front (networkOf f)))
+  pub trees : pieces width (s .count) witnesses ≡ take (s .count) (drop n (frontTrees (networkOf f)))
+  pub all : s .bounded ≡ false → n + s .count ≡ length (front (networkOf f))
+  pub some-more : s .bounded ≡ true → 0 < s .count
+
+-- The lent tables after all passes, where both hold `capacity` rows.
+pub record Filled (f : List ℕ) (capacity : ℕ) (costs witnesses : List ℕ) (r : Outcome Fronted) (costs′ witnesses′ : List ℕ) : Type 0 where
+  pub answer : r ≡ answered (record { count = min (length (front (networkOf f))) capacity; whole = leb (length (front (networkOf f))) capacity })
+  pub costs-are : costs′ ≡ over (flat (take capacity (front (networkOf f)))) costs
+  pub witnesses-are : witnesses′ ≡ over (flat (take capacity (frontTrees (networkOf f)))) witnesses

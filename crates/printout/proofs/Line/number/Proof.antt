@@ -1,0 +1,38 @@
+-- `printout::Line::number` meets its contract.
+use borrow.Author.Needs.{needs}
+use Rattle.printout.proofs.Laws.{numbered}
+use Rattle.printout.proofs.Line.number.Statement.{statement}
+use Rattle.printout.proofs.Line.number.Tie as tie
+
+decimal-requires : tie.Need-decimal-requires
+decimal-requires c κs = search needs
+
+slice-aggregate-text : tie.Need-slice-aggregate-text
+slice-aggregate-text c = search needs
+
+text-requires : tie.Need-text-requires
+text-requires c κs = search needs
+
+array-share-prefix-digits : tie.Need-array-share-prefix-digits
+array-share-prefix-digits c = search needs
+
+slice-aggregate-text-2 : tie.Need-slice-aggregate-text-2
+slice-aggregate-text-2 c = search needs
+
+text-requires-2 : tie.Need-text-requires-2
+text-requires-2 c κs = search needs
+
+returns : tie.Need-returns
+returns c = numbered (c .before .before .before .before .before .before .args .self) (c .before .before .text .result) (c .text2 .result) _ _ _ (c .before .before .before .before .decimal .ensures .1 .0) (c .before .before .before .before .decimal .ensures .1 .1) (c .before .before .text .ensures) (c .text2 .ensures)
+
+pub number-spec : {M : Type 1} → statement M
+number-spec =
+    tie.close
+    (tie.spec
+    decimal-requires
+    slice-aggregate-text
+    text-requires
+    array-share-prefix-digits
+    slice-aggregate-text-2
+    text-requires-2
+    returns)

@@ -1,0 +1,58 @@
+-- The ways through `offer`: what each test says of the model.
+use mathlib.Core.Path.{_≡_, ap}
+use mathlib.Core.Bool.{false, true}
+use mathlib.Core.List.{List}
+use Prim.Native.Nat.{_*_, _+_, _/_, _<_, _≤_, suc, ℕ}
+use native.Mathlib.Nat.{le-div-iff-mul-le, suc-mul}
+use native.Mathlib.Omega.{arith}
+use lib.ListN.{length}
+use borrow.Author.Tests.{eq-eqb, le-leb, le-ltb, lt-leb, lt-ltb, ne-eqb}
+use Rattle.tables.specs.Tables.{below}
+use Rattle.table.specs.Enter.{EnterEnd, enterCall}
+use Rattle.table.specs.Parts.{metIn}
+use Rattle.scratch.specs.Scratch.{Offered, boundIn, offerOf, offered}
+use Rattle.scratch.specs.declared.Scratch.{Scratch}
+
+-- rows of k places end within a table
+module _ (k n len : ℕ) (some-places : k ≡ 0 → ⊥) where
+  pub rows-end : n ≤ len / k → n * k ≤ len
+  rows-end h = le-div-iff-mul-le {k = k} {x = n} {y = len} (omega arith) .0 h
+
+  pub next-row-ends : n < len / k → n * k + k ≤ len
+  next-row-ends h = rw suc-mul at (le-div-iff-mul-le {k = k} {x = suc n} {y = len} (omega arith) .0 h)
+
+module _ (known : List ℕ) (n : ℕ) (costs witnesses : List ℕ) (rows : ℕ) (s : Scratch) (vector path : List ℕ) where
+  abbrev model : Offered
+  model = offerOf known n costs witnesses rows s vector path
+
+  abbrev still : Offered
+  still = record { scratch = s; costs = costs; witnesses = witnesses }
+
+  -- the tables have fewer rows than said
+  pub offer-nothing : length vector ≡ 0 → still ≡ model
+  unfolding offerOf
+  offer-nothing e = rw (eq-eqb _ _ e)
+
+  module _ (some-costs : length vector ≡ 0 → ⊥) where
+    pub offer-short : length costs / length vector ≤ rows → still ≡ model
+    unfolding offerOf
+    offer-short h = rw (ne-eqb _ _ some-costs, le-leb _ _ h)
+
+    module _ (room : rows < length costs / length vector) where
+      pub offer-unknown : length known / length vector < n → still ≡ model
+      unfolding offerOf
+      offer-unknown h = rw (ne-eqb _ _ some-costs, lt-leb _ _ room, lt-ltb _ _ h)
+
+      module _ (enough : n ≤ length known / length vector) where
+        pub offer-beyond : below (boundIn rows (length vector) (s .bounded) costs) vector ≡ false → still ≡ model
+        unfolding offerOf
+        offer-beyond e = rw (ne-eqb _ _ some-costs, lt-leb _ _ room, le-ltb _ _ enough, e)
+
+        module _ (under : below (boundIn rows (length vector) (s .bounded) costs) vector ≡ true) where
+          pub offer-met : metIn known n vector ≡ true → still ≡ model
+          unfolding offerOf
+          offer-met e = rw (ne-eqb _ _ some-costs, lt-leb _ _ room, le-ltb _ _ enough, under, e)
+
+          pub offer-entered : metIn known n vector ≡ false → (e : EnterEnd) → e ≡ enterCall costs witnesses (s .count) vector path → offered rows s e ≡ model
+          unfolding offerOf
+          offer-entered m e same = rw (ne-eqb _ _ some-costs, lt-leb _ _ room, le-ltb _ _ enough, under, m) (ap (offered rows s) same)

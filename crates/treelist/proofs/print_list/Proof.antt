@@ -1,0 +1,142 @@
+-- `treelist::print_list` meets its contract. Its loop ends since each turn leaves fewer trees behind the start of the next call.
+use mathlib.Core.Path.{_∙_, _≡_, refl}
+use Prim.Native.Nat.{_-_, _<_, _≤_}
+use native.Mathlib.Omega.{arith}
+use lib.ListN.{length, length-take, take}
+use borrow.Author.Needs.{needs}
+use Rattle.graph.specs.Paths.{trees}
+use Rattle.pages.specs.Pages.{restAfter}
+use Rattle.operations.specs.Operations.{graphIn}
+use Rattle.treelist.proofs.Laws.{Called, copied-on, given-nodes, last-page, not-refused, page-left}
+use Rattle.treelist.proofs.Run.{More, Run, run-start}
+use Rattle.treelist.proofs.print_list.Statement.{statement}
+use Rattle.treelist.proofs.print_list.Tie as tie
+
+abbrev Inv-loop : tie.InvT-loop
+Inv-loop file firsts seconds page₀ n k width start₀ len₀ total₀ page start len total =
+    (len ≤ 31) × (length start ≡ 31) × (length page ≡ length page₀) × Run file (take len start) total
+
+abbrev μ-loop : tie.MeasureT-loop
+μ-loop file firsts seconds page₀ n k width start₀ len₀ total₀ page start len total =
+    length (restAfter (trees (graphIn file)) (take len start))
+
+-- the entry of the function, and the head of the loop, from a call of Page
+abbrev entry : tie.After-page Inv-loop μ-loop → tie.Start Inv-loop μ-loop
+entry c = c .before .before .before .before .before .before .before .before .before
+
+abbrev head : tie.After-page Inv-loop μ-loop → tie.At-loop Inv-loop μ-loop
+head c = c .before .before .before
+
+-- the call
+called : (c : tie.After-page Inv-loop μ-loop) → Called (entry c .args .file .now) (entry c .args .h) (take (head c .loop .len) (head c .loop .start)) (head c .loop .page) (c .page .last .1 .0) (head c .loop .total) (c .page .result)
+called c = record {
+  given = entry c .pre .0;
+  run = head c .loop .inv .3;
+  room = omega (arith, entry c .pre .1, head c .loop .inv .2);
+  ends = c .page .ensures;
+}
+
+-- an answer that says 'more'
+left : (c : tie.After-pick-arg Inv-loop μ-loop) →
+    let p : tie.After-page Inv-loop μ-loop = c .before .before .before .before .before .before .before .before .before .before in
+    More (entry p .args .file .now) (take (head p .loop .len) (head p .loop .start)) (p .page .last .1 .0) (entry p .args .h .n - 1) (head p .loop .total) (c .before .before .before .before .before .before .answer .given .0 .0)
+left c = page-left (called (c .before .before .before .before .before .before .before .before .before .before)) (c .before .before .before .before .before .before .answer .given .1) (c .before .if1 .left)
+
+-- where the next turn takes the run up
+moved : (c : tie.After-by-value Inv-loop μ-loop) →
+    let p : tie.After-page Inv-loop μ-loop = c .before .before .before .before .before .before .before .before .before .before .before .before in
+    let f = entry p .args .file .now in
+    let next = take (entry p .args .h .n - 1) (c .by-value .result) in
+    Run f next (c .before .before .before .before .held .result)
+    × (length (restAfter (trees (graphIn f)) next) < length (restAfter (trees (graphIn f)) (take (head p .loop .len) (head p .loop .start))))
+moved c =
+    copied-on (c .by-value .result) _ (given-nodes (entry (c .before .before .before .before .before .before .before .before .before .before .before .before) .pre .0)) (left (c .before .before)) (c .before .pick .ensures) (c .by-value .ensures .1) (c .before .before .before .before .held .ensures)
+
+cast-k : tie.Need-cast-k Inv-loop μ-loop
+cast-k c = search needs
+
+cast-width : tie.Need-cast-width Inv-loop μ-loop
+cast-width c = search needs
+
+sub-width : tie.Need-sub-width Inv-loop μ-loop
+sub-width c = omega (arith, given-nodes (c .before .before .before .before .before .pre .0) .0)
+
+loop-holds : tie.Need-loop-holds Inv-loop μ-loop
+loop-holds c = (omega arith, refl, refl, run-start _)
+
+array-share-prefix-start : tie.Need-array-share-prefix-start Inv-loop μ-loop
+array-share-prefix-start c = omega arith
+
+slice-aggregate-page : tie.Need-slice-aggregate-page Inv-loop μ-loop
+slice-aggregate-page c = simp length-take (omega arith)
+
+page-requires : tie.Need-page-requires Inv-loop μ-loop
+page-requires c κs = search needs
+
+enum-known-answer : tie.Need-enum-known-answer Inv-loop μ-loop
+enum-known-answer c = search needs
+
+enum-told : tie.Need-enum-told Inv-loop μ-loop
+enum-told c = search needs
+
+same-length : tie.Need-same-length Inv-loop μ-loop
+same-length c = omega (arith, c .before .before .before .before .page .kept .1 .0)
+
+returns : tie.Need-returns Inv-loop μ-loop
+returns c = absurd (not-refused (called (c .before .before .before .before)) (c .enum-told .given .1))
+
+print-page-requires : tie.Need-print-page-requires Inv-loop μ-loop
+print-page-requires c κs = search needs
+
+held-requires : tie.Need-held-requires Inv-loop μ-loop
+held-requires c κs = search needs
+
+same-length-2 : tie.Need-same-length-2 Inv-loop μ-loop
+same-length-2 c = omega (arith, c .before .before .before .before .before .before .before .before .before .page .kept .1 .0)
+
+returns-2 : tie.Need-returns-2 Inv-loop μ-loop
+returns-2 c = c .before .held .ensures ∙ last-page (called (c .before .before .before .before .before .before .before .before .before)) (c .before .before .before .before .before .answer .given .1) (c .if1 .taken)
+
+sub-pick : tie.Need-sub-pick Inv-loop μ-loop
+sub-pick c = left c .some-written
+
+pick-requires : tie.Need-pick-requires Inv-loop μ-loop
+pick-requires c κs = search needs
+
+by-value-requires : tie.Need-by-value-requires Inv-loop μ-loop
+by-value-requires c κs = search needs
+
+loop-less : tie.Need-loop-less Inv-loop μ-loop
+loop-less c = moved c .1
+
+loop-again : tie.Need-loop-again Inv-loop μ-loop
+loop-again c =
+    let p : tie.After-page Inv-loop μ-loop = c .before .before .before .before .before .before .before .before .before .before .before .before in
+    (omega (arith, given-nodes (entry p .pre .0) .1), c .by-value .ensures .0, omega (arith, p .page .kept .1 .0), moved c .0)
+
+pub print-list-spec : {M : Type 1} → statement M
+print-list-spec =
+    tie.close
+    (tie.spec
+    Inv-loop
+    μ-loop
+    cast-k
+    cast-width
+    sub-width
+    loop-holds
+    array-share-prefix-start
+    slice-aggregate-page
+    page-requires
+    enum-known-answer
+    enum-told
+    same-length
+    returns
+    print-page-requires
+    held-requires
+    same-length-2
+    returns-2
+    sub-pick
+    pick-requires
+    by-value-requires
+    loop-less
+    loop-again)

@@ -1,0 +1,336 @@
+//! Front, as linked from the proved library, held to document 01 and to the front by subsets of rows: worked networks
+//! first, then seeded ones with tables of any length, both tables compared whole.
+
+use std::collections::BTreeSet;
+
+use planner_tests::costs::{self, Vector};
+use planner_tests::damage::damaged;
+use planner_tests::draw;
+use planner_tests::ffi::{self, SHORT_ANSWER};
+use planner_tests::file::{network_a, Network, Row, MOST};
+use planner_tests::lent::Lent;
+use planner_tests::operations::{self, Listed};
+use planner_tests::rng::Rng;
+use planner_tests::trees;
+
+/// One call: the file, tables and an answer of so many places. Returns the code that it must have.
+fn hold(
+    file: &[u8],
+    read: &Result<Listed, u32>,
+    [cost_places, witness_places, answer_places]: [usize; 3],
+    rng: &mut Rng,
+) -> u32 {
+    let mut costs = Lent::new(cost_places, || rng.word() as u32);
+    let mut witnesses = Lent::new(witness_places, || rng.word() as u16);
+    let mut answer = Lent::new(answer_places, || rng.word() as u32);
+    let code = ffi::front(file, costs.part(), witnesses.part(), answer.part());
+    let (expected, vectors, counted) = match operations::front(read, cost_places, witness_places) {
+        _ if answer_places < 2 => (SHORT_ANSWER, &[][..], vec![]),
+        Ok(fronted) => {
+            let counted = vec![fronted.vectors.len() as u32, fronted.whole as u32];
+            (0, fronted.vectors, counted)
+        }
+        Err(number) => (number, &[][..], vec![]),
+    };
+    let told = || format!("Front of {cost_places} and {witness_places} places, file {file:02x?}");
+    assert_eq!(code, expected, "{}", told());
+    answer.expect(&counted, told);
+    costs.expect(&vectors.concat(), told);
+
+    // Document 01 leaves open which tree of a vector stands beside it, so those that do are held to be trees of the
+    // list with that vector, and the places behind them to be as they were.
+    let mut filled = 0;
+    if let (Ok(listed), false) = (read, vectors.is_empty()) {
+        let width = listed.network.width();
+        filled = vectors.len() * width;
+        for (witness, vector) in witnesses.first(filled).chunks(width).zip(vectors) {
+            assert!(listed.list.iter().any(|tree| tree == witness), "{}", told());
+            assert_eq!(costs::vector(&listed.network, witness), *vector);
+        }
+    }
+    let written = witnesses.first(filled).to_vec();
+    witnesses.expect(&written, told);
+    expected
+}
+
+/// The front through tables of so many rows, and whether it is marked as whole.
+fn front(network: &Network, capacity: usize) -> (Vec<Vector>, bool) {
+    let mut costs = vec![0; capacity * network.k()];
+    let mut witnesses = vec![0; capacity * network.width()];
+    let mut answer = [0; 2];
+    let code = ffi::front(&network.encode(), &mut costs, &mut witnesses, &mut answer);
+    assert_eq!(code, 0);
+    let rows = costs.chunks(network.k()).take(answer[0] as usize);
+    (rows.map(<[u32]>::to_vec).collect(), answer[1] == 1)
+}
+
+#[test]
+fn network_a_of_document_01() {
+    let a = network_a();
+    let whole = vec![vec![7, 7], vec![8, 6], vec![11, 5]];
+    assert_eq!(front(&a, 1), (whole[..1].to_vec(), false));
+    assert_eq!(front(&a, 2), (whole[..2].to_vec(), false));
+    assert_eq!(front(&a, 3), (whole.clone(), true));
+    assert_eq!(front(&a, 512), (whole, true));
+}
+
+/// A network of rows with a length, which is added, and a risk, of which the worst counts.
+fn lengths_and_risks(n: u8, rows: &[[u32; 4]]) -> Network {
+    let row = |&[a, b, length, risk]: &[u32; 4]| Row {
+        ends: [a as u8, b as u8],
+        street: 0,
+        costs: vec![length, risk],
+    };
+    Network {
+        n,
+        kinds: vec![0, 1],
+        rows: rows.iter().map(row).collect(),
+    }
+}
+
+/// Document 000, table 2: its first worked network.
+fn first_of_document_000() -> Network {
+    lengths_and_risks(
+        9,
+        &[
+            [1, 2, 4, 2],
+            [1, 3, 8, 2],
+            [2, 3, 11, 6],
+            [2, 4, 8, 2],
+            [3, 5, 7, 6],
+            [3, 6, 1, 2],
+            [4, 5, 2, 6],
+            [4, 7, 4, 4],
+            [4, 8, 7, 8],
+            [5, 6, 6, 4],
+            [6, 7, 2, 4],
+            [7, 8, 14, 2],
+            [7, 9, 10, 4],
+            [8, 9, 9, 8],
+        ],
+    )
+}
+
+/// Document 000, table 4: its second worked network.
+fn second_of_document_000() -> Network {
+    lengths_and_risks(
+        5,
+        &[
+            [1, 2, 7, 10],
+            [1, 3, 7, 6],
+            [1, 4, 9, 4],
+            [1, 5, 15, 8],
+            [2, 3, 15, 4],
+            [2, 4, 7, 8],
+            [2, 5, 9, 6],
+            [3, 4, 7, 8],
+            [3, 5, 9, 4],
+            [4, 5, 9, 6],
+        ],
+    )
+}
+
+/// Document 000 gives 662 trees, 58 different vectors and a front of three for its first network, with two trees for
+/// each of the three; 125 trees for its second, of which 12 are shortest and three of these have the least risk, 8.
+#[test]
+fn worked_networks_of_document_000() {
+    let first = first_of_document_000();
+    let list = trees::list(&first);
+    let vectors: Vec<Vector> = list.iter().map(|t| costs::vector(&first, t)).collect();
+    let different: BTreeSet<&Vector> = vectors.iter().collect();
+    let whole = vec![vec![37, 8], vec![45, 6], vec![49, 4]];
+    assert_eq!((list.len(), different.len()), (662, 58));
+    for vector in &whole {
+        assert_eq!(vectors.iter().filter(|&v| v == vector).count(), 2);
+    }
+    assert_eq!(front(&first, 64), (whole.clone(), true));
+    assert_eq!(front(&first, 3), (whole.clone(), true));
+    assert_eq!(front(&first, 2), (whole[..2].to_vec(), false));
+
+    let second = second_of_document_000();
+    let list = trees::list(&second);
+    let vectors: Vec<Vector> = list.iter().map(|t| costs::vector(&second, t)).collect();
+    let shortest = vectors.iter().map(|v| v[0]).min().unwrap();
+    assert_eq!(list.len(), 125);
+    assert_eq!(vectors.iter().filter(|v| v[0] == shortest).count(), 12);
+    assert_eq!(vectors.iter().filter(|v| **v == [shortest, 8]).count(), 3);
+    let (whole, mark) = front(&second, 64);
+    assert_eq!(whole[0], [shortest, 8]);
+    assert_eq!((whole, mark), (costs::front(vectors), true));
+}
+
+/// Two rows for each step of a line, the one dear in the first criterion, the other in the second: no tree dominates
+/// another, and each vector differs.
+fn all_undominated(steps: u8) -> Network {
+    let row = |a: u8, costs: [u32; 2]| Row {
+        ends: [a, a + 1],
+        street: 0,
+        costs: costs.to_vec(),
+    };
+    Network {
+        n: steps + 1,
+        kinds: vec![0, 2],
+        rows: (1..=steps)
+            .flat_map(|a| [row(a, [1 << a, 0]), row(a, [0, 1 << a])])
+            .collect(),
+    }
+}
+
+/// Fronts of 2 to the power of the steps, longer than any table that the library may keep of its own.
+#[test]
+fn long_fronts() {
+    for steps in [1, 4, 6, 7, 9] {
+        let network = all_undominated(steps);
+        let size = 1usize << steps;
+        let vectors: Vec<Vector> = (0..size as u32)
+            .map(|i| vec![2 * i, 2 * (size as u32 - 1 - i)])
+            .collect();
+        for capacity in [1, size / 3 + 1, size - 1, size, size + 1] {
+            let fitting = capacity.min(size);
+            let expected = (vectors[..fitting].to_vec(), size <= capacity);
+            assert_eq!(front(&network, capacity), expected);
+        }
+    }
+}
+
+/// A vector that the tables have no room for when it comes, and that belongs to the finished front: the trees that fill
+/// them at first are all dominated by the last one.
+#[test]
+fn a_full_table_is_not_a_cut_front() {
+    let mut network = all_undominated(5);
+    for row in &mut network.rows {
+        row.costs.iter_mut().for_each(|cost| *cost += 100);
+    }
+    for a in 1..=5 {
+        network.rows.push(Row {
+            ends: [a, a + 1],
+            street: 0,
+            costs: vec![1, 1],
+        });
+    }
+    for capacity in 1..5 {
+        assert_eq!(front(&network, capacity), (vec![vec![5, 5]], true));
+    }
+}
+
+/// How many seeded networks there are, and how many at the least must come of everything that is counted.
+const NETWORKS: u64 = 10_000;
+const ENOUGH: usize = 300;
+
+/// Costs that trade off against each other, so that many vectors stay: what one criterion gains another loses.
+fn spread_costs(network: &mut Network, rng: &mut Rng) {
+    let most = rng.pick(&[20, 500, MOST as usize]);
+    for row in &mut network.rows {
+        let first = rng.between(0, most);
+        for (i, cost) in row.costs.iter_mut().enumerate() {
+            let trade = if i % 2 == 0 { first } else { most - first };
+            *cost = (trade + rng.between(0, most / 8)).min(MOST as usize) as u32;
+        }
+    }
+}
+
+/// Capacities from one row to beyond the front, the two tables' own, with places left over; or too short for a row.
+fn tables(read: &Listed, rng: &mut Rng) -> [usize; 3] {
+    let (k, width) = (read.network.k(), read.network.width());
+    let size = read.front.len();
+    let capacity = match rng.between(0, 4) {
+        0 => 1,
+        1 => rng.between(1, size + 2),
+        2 => size.max(1),
+        3 => size.max(2) - 1,
+        _ => size + rng.between(1, 70),
+    };
+    let mut costs = capacity * k + rng.between(0, k - 1);
+    let mut witnesses = capacity * width + rng.between(0, width - 1);
+    match rng.between(0, 7) {
+        0 => costs = rng.between(0, k),
+        1 => witnesses = rng.between(0, width),
+        2 => costs += k * rng.between(1, 9),
+        3 => witnesses += width * rng.between(1, 9),
+        _ => {}
+    }
+    [costs, witnesses, rng.pick(&[0, 1, 2, 2, 2, 2, 2, 2, 3, 5])]
+}
+
+#[test]
+fn seeded_networks() {
+    let mut of_code = [0; 256];
+    let mut whole = 0;
+    let mut cut = 0;
+    let mut single = 0;
+    let mut longest = 0;
+    for seed in 0..NETWORKS {
+        let rng = &mut Rng::new(seed);
+        let mut network = draw::network(rng, 7, 12);
+        if rng.once_in(2) {
+            spread_costs(&mut network, rng);
+        }
+        let file = network.encode();
+        let read = Listed::read(&file);
+        let size = read.as_ref().unwrap().front.len();
+        single += (size == 1) as usize;
+        longest = longest.max(size);
+        for _ in 0..4 {
+            let tables = tables(read.as_ref().unwrap(), rng);
+            let code = hold(&file, &read, tables, rng);
+            of_code[code as usize] += 1;
+            if code == 0 {
+                let mark = operations::front(&read, tables[0], tables[1]);
+                match mark.map(|fronted| fronted.whole) {
+                    Ok(true) => whole += 1,
+                    _ => cut += 1,
+                }
+            }
+        }
+    }
+    println!("{NETWORKS} networks, the longest front {longest}");
+    println!("{single} fronts of one vector");
+    println!("calls by code, 0 to 12: {:?}", &of_code[..13]);
+    println!("{whole} whole, {cut} cut, {} short answers", of_code[255]);
+    for code in [0, 11, 12, 255] {
+        assert!(of_code[code] >= ENOUGH, "too few: {code}");
+    }
+    assert!(whole >= ENOUGH && cut >= ENOUGH && single >= ENOUGH);
+}
+
+/// Many criteria and costs of any size: fronts of some hundred vectors, which grow and shrink on the way.
+#[test]
+fn seeded_networks_with_long_fronts() {
+    let mut longest = 0;
+    let mut over_64 = 0;
+    for seed in 0..300 {
+        let rng = &mut Rng::new(seed);
+        let (n, m) = (rng.between(5, 7), rng.between(13, 15));
+        let mut network = Network::random(rng, n, m, 4);
+        network.kinds = vec![0, 2, 0, rng.between(0, 2) as u8];
+        let file = network.encode();
+        let read = Listed::read(&file);
+        let size = read.as_ref().unwrap().front.len();
+        over_64 += (size > 64) as usize;
+        longest = longest.max(size);
+        for rows in [1, rng.between(1, 80), 64, 65, size.max(2) - 1, size + 1] {
+            hold(&file, &read, [4 * rows, (n - 1) * rows, 2], rng);
+        }
+    }
+    println!("{over_64} fronts of more than 64 vectors, the longest {longest}");
+    assert!(over_64 >= 50);
+}
+
+#[test]
+fn damaged_files() {
+    let mut of_code = [0; 256];
+    for seed in 0..20_000 {
+        let rng = &mut Rng::new(seed);
+        let network = draw::network(rng, 5, 8);
+        let file = damaged(&network, rng);
+        let read = Listed::read(&file);
+        let tables = [
+            rng.between(0, 12),
+            rng.between(0, 12),
+            rng.pick(&[0, 1, 2, 2, 2, 2, 2, 3]),
+        ];
+        of_code[hold(&file, &read, tables, rng) as usize] += 1;
+    }
+    println!("calls by code, 0 to 12: {:?}", &of_code[..13]);
+    assert!(of_code[1..8].iter().all(|&count| count >= ENOUGH));
+}
