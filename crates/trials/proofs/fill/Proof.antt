@@ -10,10 +10,10 @@ use Rattle.trials.proofs.fill.Statement.{statement}
 use Rattle.trials.proofs.fill.Tie as tie
 
 abbrev Inv-loop : tie.InvT-loop
-Inv-loop file₀ head row at₀ file at = Written (byteBy head row) 0 (length file₀) file at
+Inv-loop file₀ head ends costs k at₀ file at = Written (byteBy head ends costs k) 0 (length file₀) file at
 
 abbrev μ-loop : tie.MeasureT-loop
-μ-loop file₀ head row at₀ file at = length file₀ - at
+μ-loop file₀ head ends costs k at₀ file at = length file₀ - at
 
 loop-holds : tie.Need-loop-holds Inv-loop μ-loop
 loop-holds c = written-start _ refl

@@ -1,0 +1,59 @@
+use mathlib.Core.Path.{_∙_, ap}
+use mathlib.Core.List.{List}
+use Prim.Native.Nat.{ℕ}
+use borrow.Author.Needs.{needs}
+use borrow.Author.Tests.{eq-eqb}
+use Rattle.checks.specs.Checks.{Ended}
+use Rattle.network_file.specs.File.{openOf}
+use Rattle.operations.specs.Operations.{Paged}
+use Rattle.trials.specs.Files.{numberOf}
+use Rattle.trials.proofs.Answers.{page-apart}
+use Rattle.trials.proofs.no_rows.Statement.{statement}
+use Rattle.trials.proofs.no_rows.Tie as tie
+
+slice-aggregate-opened : tie.Need-slice-aggregate-opened
+slice-aggregate-opened c = search needs
+
+opened-requires : tie.Need-opened-requires
+opened-requires c κs = search needs
+
+expect-requires : tie.Need-expect-requires
+unfolding openOf
+expect-requires c κs = eq-eqb (c .opened .result) 0 (c .opened .ensures)
+
+slice-aggregate-page : tie.Need-slice-aggregate-page
+slice-aggregate-page c = search needs
+
+slice-aggregate-page-2 : tie.Need-slice-aggregate-page-2
+slice-aggregate-page-2 c = search needs
+
+slice-aggregate-page-3 : tie.Need-slice-aggregate-page-3
+slice-aggregate-page-3 c = search needs
+
+page-requires : tie.Need-page-requires
+page-requires c κs = search needs
+
+page-number-requires : tie.Need-page-number-requires
+page-number-requires c κs = search needs
+
+expect-requires-2 : tie.Need-expect-requires-2
+expect-requires-2 c κs =
+    eq-eqb _ 12 (c .page-number .ensures ∙ ap (λ (e : Ended Paged (List ℕ)). numberOf (e .outcome)) (c .before .before .page .ensures ∙ page-apart))
+
+returns : tie.Need-returns
+returns c = search needs
+
+pub no-rows-spec : {M : Type 1} → statement M
+no-rows-spec =
+    tie.close
+    (tie.spec
+    slice-aggregate-opened
+    opened-requires
+    expect-requires
+    slice-aggregate-page
+    slice-aggregate-page-2
+    slice-aggregate-page-3
+    page-requires
+    page-number-requires
+    expect-requires-2
+    returns)
