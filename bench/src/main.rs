@@ -145,12 +145,29 @@ fn compare_fronts(name: &str, network: &Network) {
     let mut trees = 0;
     plain_pages(network, &mut |page| trees += page.len() / width);
     let [ours, theirs] = shortest(
-        || assert_eq!(ffi::front(&file, &mut costs, &mut witnesses, &mut answer), 0),
+        || {
+            assert_eq!(
+                ffi::front(&file, &mut costs, &mut witnesses, &mut answer),
+                0
+            )
+        },
         || drop(black_box(front::front(network))),
     );
-    let expected: Vec<u32> = front::front(network).iter().flat_map(|(v, _)| v[..k].to_vec()).collect();
-    assert_eq!(costs[..answer[0] as usize * k], expected, "{name}: not the same front");
-    print_ratio(&format!("{name}: front of {}", answer[0]), trees, ours, theirs);
+    let expected: Vec<u32> = front::front(network)
+        .iter()
+        .flat_map(|(v, _)| v[..k].to_vec())
+        .collect();
+    assert_eq!(
+        costs[..answer[0] as usize * k],
+        expected,
+        "{name}: not the same front"
+    );
+    print_ratio(
+        &format!("{name}: front of {}", answer[0]),
+        trees,
+        ours,
+        theirs,
+    );
 }
 
 fn main() {
@@ -166,6 +183,14 @@ fn main() {
         &networks::random(10, 25, &[0]),
     );
     compare_lists("ladder of 12 nodes", &networks::ladder(12, &[0]));
+    compare_lists(
+        "complete, 8 nodes, 2 must, 4 barred",
+        &networks::with_states(networks::complete(8, &[0]), 2, 4),
+    );
+    compare_lists(
+        "ladder of 12, 3 must, 2 barred",
+        &networks::with_states(networks::ladder(12, &[0]), 3, 2),
+    );
     println!();
     println!("Page: the first page, milliseconds a call (plain Rust does not look ahead and would not end)");
     println!(
@@ -175,10 +200,35 @@ fn main() {
     first_page("star of 32 nodes, plant at the rim", &networks::star(32));
     first_page("line of 32 nodes by 8 rows each", &networks::line(32, 8));
     first_page("grid of 5 by 6 nodes", &networks::grid(5, 6, &[0]));
+    first_page(
+        "grid of 5 by 6, 10 must, 5 barred",
+        &networks::with_states(networks::grid(5, 6, &[0]), 10, 5),
+    );
+    first_page(
+        "line of 32 by 8, one of 8 barred",
+        &networks::line_with_barred(32, 8),
+    );
+    first_page("must path of 31 rows", &networks::must_path(32));
     println!();
     println!("Front: tables of {FRONT_ROWS} rows, nanoseconds a tree");
-    println!("{:36} {:>9} {:>12} {:>12} {:>8}", "", "trees", "library", "plain Rust", "ratio");
-    compare_fronts("complete graph of 7 nodes, two criteria", &networks::complete(7, &[0, 1]));
-    compare_fronts("random, 10 nodes and 25 rows, added and closing", &networks::random(10, 25, &[0, 2]));
-    compare_fronts("grid of 4 by 4 nodes, three criteria", &networks::grid(4, 4, &[0, 1, 2]));
+    println!(
+        "{:36} {:>9} {:>12} {:>12} {:>8}",
+        "", "trees", "library", "plain Rust", "ratio"
+    );
+    compare_fronts(
+        "complete graph of 7 nodes, two criteria",
+        &networks::complete(7, &[0, 1]),
+    );
+    compare_fronts(
+        "random, 10 nodes and 25 rows, added and closing",
+        &networks::random(10, 25, &[0, 2]),
+    );
+    compare_fronts(
+        "grid of 4 by 4 nodes, three criteria",
+        &networks::grid(4, 4, &[0, 1, 2]),
+    );
+    compare_fronts(
+        "complete, 8 nodes, 2 must, 4 barred",
+        &networks::with_states(networks::complete(8, &[0, 1]), 2, 4),
+    );
 }

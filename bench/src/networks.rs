@@ -1,22 +1,19 @@
 //! The networks that are measured. Node 1 is the plant; costs and streets come from a fixed seed.
 
-use planner_tests::file::{Network, Row};
+use planner_tests::draw;
+use planner_tests::file::{Network, Row, BARRED, MUST};
 use planner_tests::rng::Rng;
 use planner_tests::trees;
 
 /// These rows, with costs of 0 to 99 for each kind and four streets.
 fn with_rows(n: u8, pairs: &[[u8; 2]], kinds: &[u8]) -> Network {
     let rng = &mut Rng::new(n as u64);
-    let row = |&ends: &[u8; 2]| Row {
-        ends,
-        street: rng.between(0, 4) as u16,
-        costs: kinds.iter().map(|_| rng.between(0, 99) as u32).collect(),
+    let row = |&ends: &[u8; 2]| {
+        let street = rng.between(0, 4) as u16;
+        let costs = kinds.iter().map(|_| rng.between(0, 99) as u32);
+        Row::new(ends, street, costs.collect())
     };
-    Network {
-        n,
-        rows: pairs.iter().map(row).collect(),
-        kinds: kinds.to_vec(),
-    }
+    Network::new(n, kinds.to_vec(), pairs.iter().map(row).collect())
 }
 
 /// A row between each two nodes.
@@ -67,4 +64,37 @@ pub fn star(n: u8) -> Network {
 pub fn line(n: u8, beside: usize) -> Network {
     let pairs: Vec<[u8; 2]> = (1..n).flat_map(|a| vec![[a, a + 1]; beside]).collect();
     with_rows(n, &pairs, &[0])
+}
+
+/// The same network with so many must rows, all of one spanning tree, and so many barred rows beside that tree.
+pub fn with_states(network: Network, musts: usize, barred: usize) -> Network {
+    let tree = draw::forest(&mut Rng::new(1), &network);
+    let beside = (0..network.m() as u16).filter(|row| !tree.contains(row));
+    let mut states = vec![0; network.m()];
+    for row in beside.take(barred) {
+        states[row as usize] = BARRED;
+    }
+    for &row in &tree[..musts] {
+        states[row as usize] = MUST;
+    }
+    network.with_states(&states)
+}
+
+/// A line, each step of it by so many rows beside each other, of which the first is barred.
+pub fn line_with_barred(n: u8, beside: usize) -> Network {
+    let network = line(n, beside);
+    let states: Vec<u8> = (0..network.m())
+        .map(|row| if row % beside == 0 { BARRED } else { 0 })
+        .collect();
+    network.with_states(&states)
+}
+
+/// A must path through all the nodes, from the last to the plant, behind as many other rows as a file may have.
+pub fn must_path(n: u8) -> Network {
+    let others = random(n, 257 - n as usize, &[0]);
+    let mut pairs: Vec<[u8; 2]> = others.rows.iter().map(|row| row.ends).collect();
+    let mut states = vec![0; pairs.len()];
+    pairs.extend((1..n).map(|a| [a + 1, a]));
+    states.resize(pairs.len(), MUST);
+    with_rows(n, &pairs, &[0]).with_states(&states)
 }

@@ -1,27 +1,36 @@
 //! What the library is measured against: a plain depth-first walk in the order of the list, over adjacency lists sorted by
-//! node and row. It is recursive, allocates nothing and does not look ahead, so it also grows paths that end nowhere.
+//! node and row, without barred rows. It is recursive, allocates nothing and does not look ahead, so it also grows paths that
+//! end nowhere, and whole trees that lack a must row.
 
-use planner_tests::file::Network;
+use planner_tests::file::{Network, BARRED, MUST};
 
 pub struct Graph {
     /// How many rows a tree has.
     pub width: usize,
     /// For each node its neighbours, each with the row that leads there.
     neighbours: Vec<Vec<(u8, u16)>>,
+    musts: Vec<u16>,
 }
 
 impl Graph {
     pub fn new(network: &Network) -> Graph {
         let mut neighbours = vec![Vec::new(); network.n as usize + 1];
-        for (row, of) in network.rows.iter().enumerate() {
+        let mut musts = Vec::new();
+        for (row, of) in (0..).zip(&network.rows) {
             let [a, b] = of.ends;
-            neighbours[a as usize].push((b, row as u16));
-            neighbours[b as usize].push((a, row as u16));
+            if of.state != BARRED {
+                neighbours[a as usize].push((b, row));
+                neighbours[b as usize].push((a, row));
+            }
+            if of.state == MUST {
+                musts.push(row);
+            }
         }
         neighbours.iter_mut().for_each(|list| list.sort());
         Graph {
             width: network.width(),
             neighbours,
+            musts,
         }
     }
 
@@ -45,7 +54,11 @@ impl Graph {
         show: &mut impl FnMut(&[u16]),
     ) {
         if steps == self.width {
-            return show(&grown.rows[..steps]);
+            let rows = &grown.rows[..steps];
+            if self.musts.iter().all(|must| rows.contains(must)) {
+                show(rows);
+            }
+            return;
         }
         let mut from = first_neighbour;
         for place in first_place..=steps {

@@ -1,12 +1,13 @@
-//! What can be wrong with a network file: faults by name, each with the check of document 01 that it runs into; and
+//! What can be wrong with a network file: faults by name, each with the check of document 01 or 02 that it runs into; and
 //! files with a fault or two.
 
 use crate::file::{mend_length, Network, MOST};
 use crate::rng::Rng;
 
-/// The sizes of the sound file that is damaged; they say where its parts stand.
+/// The version and the sizes of the sound file that is damaged; they say where its parts stand.
 #[derive(Clone, Copy)]
 pub struct Sizes {
+    pub version: u8,
     pub n: usize,
     pub m: usize,
     pub k: usize,
@@ -14,19 +15,22 @@ pub struct Sizes {
 
 impl Sizes {
     /// Mostly small ones, some of any size, some at the limits.
-    pub fn random(rng: &mut Rng) -> Sizes {
+    pub fn random(version: u8, rng: &mut Rng) -> Sizes {
         match rng.between(0, 19) {
             0 => Sizes {
+                version,
                 n: rng.pick(&[2, 3, 31, 32]),
                 m: rng.pick(&[0, 1, 255, 256]),
                 k: rng.pick(&[1, 4]),
             },
             1..=4 => Sizes {
+                version,
                 n: rng.between(2, 32),
                 m: rng.between(0, 256),
                 k: rng.between(1, 4),
             },
             _ => Sizes {
+                version,
                 n: rng.between(2, 6),
                 m: rng.between(0, 9),
                 k: rng.between(1, 4),
@@ -34,12 +38,30 @@ impl Sizes {
         }
     }
 
+    /// A sound network of this version and these sizes.
+    pub fn network(self, rng: &mut Rng) -> Network {
+        let network = Network::random(rng, self.n, self.m, self.k);
+        match self.version {
+            1 => network,
+            _ => network.with_any_states(rng),
+        }
+    }
+
+    /// The bytes of a row before its costs: version 2 has a state byte there.
+    fn head(self) -> usize {
+        if self.version == 1 {
+            4
+        } else {
+            5
+        }
+    }
+
     fn row_at(self, row: usize) -> usize {
-        9 + self.k + row * (4 + 4 * self.k)
+        9 + self.k + row * (self.head() + 4 * self.k)
     }
 
     fn cost_at(self, row: usize, criterion: usize) -> usize {
-        self.row_at(row) + 4 + 4 * criterion
+        self.row_at(row) + self.head() + 4 * criterion
     }
 }
 
@@ -70,13 +92,13 @@ const fn fault_of_any_check(name: &'static str, damage: Damage) -> Fault {
     }
 }
 
-pub const FAULTS: [Fault; 32] = [
+const FAULTS: [Fault; 32] = [
     fault("empty", 1, |file, _, _| {
         file.clear();
         true
     }),
     fault("another version", 1, |file, _, rng| {
-        let version = rng.pick(&[0, 2, 3, 129, 255]);
+        let version = rng.pick(&[0, 3, 4, 129, 255]);
         put(file, 0, &[version])
     }),
     fault("under 9 bytes", 2, |file, _, rng| {
@@ -124,17 +146,17 @@ pub const FAULTS: [Fault; 32] = [
     }),
     fault("all there for an n out of range", 3, |file, at, rng| {
         let n = rng.pick(&[0, 1, 33, 34, 255]);
-        *file = Network::random(rng, n, at.m, at.k).encode();
+        *file = Sizes { n, ..at }.network(rng).encode();
         true
     }),
     fault("all there for an m out of range", 3, |file, at, rng| {
         let m = rng.pick(&[257, 258, 300, 512]);
-        *file = Network::random(rng, at.n, m, at.k).encode();
+        *file = Sizes { m, ..at }.network(rng).encode();
         true
     }),
     fault("all there for a k out of range", 3, |file, at, rng| {
         let k = rng.pick(&[0, 5, 6, 255]);
-        *file = Network::random(rng, at.n, at.m, k).encode();
+        *file = Sizes { k, ..at }.network(rng).encode();
         true
     }),
     fault("truncated, with a true length field", 4, |file, _, rng| {
@@ -195,10 +217,10 @@ pub const FAULTS: [Fault; 32] = [
         let byte = rng.byte();
         put(file, at, &[byte])
     }),
-    fault_of_any_check("a tiny file", |file, _, rng| {
+    fault_of_any_check("a tiny file", |file, at, rng| {
         *file = (0..rng.between(0, 12)).map(|_| rng.byte()).collect();
         if !rng.once_in(8) {
-            put(file, 0, &[1]);
+            put(file, 0, &[at.version]);
         }
         if !rng.once_in(4) {
             mend(file);
@@ -215,17 +237,48 @@ pub const FAULTS: [Fault; 32] = [
     }),
 ];
 
+/// What can only be wrong with a file of version 2.
+const STATE_FAULTS: [Fault; 5] = [
+    fault("a state of 3", 14, |file, at, rng| {
+        put_state(file, at, 3, rng)
+    }),
+    fault("a state above 2", 14, |file, at, rng| {
+        let state = rng.between(3, 255) as u8;
+        put_state(file, at, state, rng)
+    }),
+    fault("every state above 2", 14, |file, at, rng| {
+        let state = rng.between(3, 255) as u8;
+        at.m > 0 && (0..at.m).all(|row| put(file, at.row_at(row) + 4, &[state]))
+    }),
+    fault("a state in range", 0, |file, at, rng| {
+        let state = rng.between(0, 2) as u8;
+        put_state(file, at, state, rng)
+    }),
+    // 4 where there are rows; a file without rows reads the same in both versions
+    fault_of_any_check("version 1 over rows with states", |file, _, _| {
+        put(file, 0, &[1])
+    }),
+];
+
+/// The faults that a file of this version may have.
+pub fn faults(version: u8) -> Vec<&'static Fault> {
+    let of_states: &[Fault] = if version == 1 { &[] } else { &STATE_FAULTS };
+    FAULTS.iter().chain(of_states).collect()
+}
+
 /// The network's file with one fault, or two.
 pub fn damaged(network: &Network, rng: &mut Rng) -> Vec<u8> {
+    let faults = faults(network.version);
     let sizes = Sizes {
+        version: network.version,
         n: network.n as usize,
         m: network.m(),
         k: network.k(),
     };
     let mut file = network.encode();
     for _ in 0..rng.between(1, 2) {
-        let fault = rng.between(0, FAULTS.len() - 1);
-        (FAULTS[fault].damage)(&mut file, sizes, rng);
+        let fault = rng.between(0, faults.len() - 1);
+        (faults[fault].damage)(&mut file, sizes, rng);
     }
     file
 }
@@ -307,6 +360,11 @@ fn put_end(file: &mut [u8], at: Sizes, end: u8, rng: &mut Rng) -> bool {
 /// Sets both ends of some row.
 fn put_ends(file: &mut [u8], at: Sizes, ends: [u8; 2], rng: &mut Rng) -> bool {
     some_row(at, rng).is_some_and(|row| put(file, at.row_at(row), &ends))
+}
+
+/// Sets the state of some row.
+fn put_state(file: &mut [u8], at: Sizes, state: u8, rng: &mut Rng) -> bool {
+    some_row(at, rng).is_some_and(|row| put(file, at.row_at(row) + 4, &[state]))
 }
 
 /// Sets some cost of some row.

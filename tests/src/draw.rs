@@ -1,7 +1,7 @@
 //! Networks and drawn rows made from seeds: rows beside each other, few costs and streets so that they tie, parts that
-//! nothing joins, nodes that no row touches; rows drawn well, and with slips.
+//! nothing joins, nodes that no row touches, rows with states; rows drawn well, and with slips.
 
-use crate::file::{Network, Row, MOST};
+use crate::file::{Network, Row, BARRED, MOST, MUST, OPEN};
 use crate::rng::Rng;
 
 /// A network of at most so many nodes and rows; there must be room for a spanning tree.
@@ -16,17 +16,62 @@ pub fn network(rng: &mut Rng, most_nodes: usize, most_rows: usize) -> Network {
     let k = rng.between(1, 4);
     let most_cost = rng.pick(&[0, 1, 3, 9, 30, MOST as usize]);
     let most_street = rng.pick(&[0, 1, 3, u16::MAX as usize]);
-    let row = |ends: [u8; 2]| Row {
-        ends,
-        street: rng.between(0, most_street) as u16,
-        costs: (0..k).map(|_| rng.between(0, most_cost) as u32).collect(),
+    let row = |ends: [u8; 2]| {
+        let street = rng.between(0, most_street) as u16;
+        let costs = (0..k).map(|_| rng.between(0, most_cost) as u32).collect();
+        Row::new(ends, street, costs)
     };
     let rows = pairs.into_iter().map(row).collect();
-    Network {
-        n: n as u8,
-        kinds: (0..k).map(|_| rng.between(0, 2) as u8).collect(),
-        rows,
+    let kinds = (0..k).map(|_| rng.between(0, 2) as u8).collect();
+    Network::new(n as u8, kinds, rows)
+}
+
+/// A network with states, of at most so many nodes and rows.
+pub fn network_with_states(rng: &mut Rng, most_nodes: usize, most_rows: usize) -> Network {
+    let network = network(rng, most_nodes, most_rows);
+    states(rng, network)
+}
+
+/// The network in version 2. Mostly must rows of one spanning tree and barred rows beside it, few or many, so that a tree is
+/// left; then often a state that may leave none: another row of any state, a row beside a must row that must be dug too, a
+/// must row's whole cycle, a row of the tree barred. Now and then every row has one state.
+fn states(rng: &mut Rng, network: Network) -> Network {
+    let m = network.m();
+    if m == 0 || rng.once_in(12) {
+        let state = rng.pick(&[OPEN, MUST, BARRED]);
+        return network.with_states(&vec![state; m]);
     }
+    let tree = forest(rng, &network);
+    let (musts, barred) = (rng.pick(&[1, 2, 4, 20]), rng.pick(&[1, 2, 4, 20]));
+    let mut states: Vec<u8> = (0..m as u16)
+        .map(|row| match tree.contains(&row) {
+            true if rng.once_in(musts) => MUST,
+            false if rng.once_in(barred) => BARRED,
+            _ => OPEN,
+        })
+        .collect();
+    let row = rng.between(0, m - 1);
+    match rng.between(0, 9) {
+        0 => states[row] = rng.pick(&[MUST, BARRED]),
+        // every row between the same two nodes must be dug
+        1 => {
+            let pair = |row: usize| {
+                let [a, b] = network.rows[row].ends;
+                [a.min(b), a.max(b)]
+            };
+            (0..m)
+                .filter(|&other| pair(other) == pair(row))
+                .for_each(|other| states[other] = MUST);
+        }
+        // the tree, and a row of any state beside it
+        2 => {
+            tree.iter().for_each(|&row| states[row as usize] = MUST);
+            states[row] = rng.pick(&[MUST, BARRED, OPEN]);
+        }
+        3 => states[rng.pick(&tree) as usize] = BARRED,
+        _ => {}
+    }
+    network.with_states(&states)
 }
 
 /// The ends of the rows.
@@ -90,10 +135,25 @@ fn two_of(rng: &mut Rng, part: &[u8]) -> [u8; 2] {
     [part[a], part[if b < a { b } else { b + 1 }]]
 }
 
-/// A spanning tree in any sequence, if the network has one; else as many rows that make no cycle.
+/// A spanning tree in any sequence, if the network has one; else as many rows that make no cycle. States have no say.
 pub fn forest(rng: &mut Rng, network: &Network) -> Vec<u16> {
+    forest_by(rng, network, |_| 0)
+}
+
+/// The same, with must rows taken first and barred rows last: a tree that keeps the states, if the network has one.
+pub fn layout(rng: &mut Rng, network: &Network) -> Vec<u16> {
+    forest_by(rng, network, |state| match state {
+        MUST => 0,
+        BARRED => 2,
+        _ => 1,
+    })
+}
+
+/// Rows that make no cycle with those taken before them; of two rows the one of lower rank is taken first.
+fn forest_by(rng: &mut Rng, network: &Network, rank: impl Fn(u8) -> u8) -> Vec<u16> {
     let mut rows: Vec<u16> = (0..network.m() as u16).collect();
     rng.shuffle(&mut rows);
+    rows.sort_by_key(|&row| rank(network.rows[row as usize].state));
     let mut part: Vec<u8> = (0..=network.n).collect();
     rows.retain(|&row| {
         let [a, b] = network.rows[row as usize]
@@ -106,10 +166,14 @@ pub fn forest(rng: &mut Rng, network: &Network) -> Vec<u16> {
     rows
 }
 
-/// Rows as somebody may draw them: n - 1 of them where there are rows at all, a spanning tree if there is one, and then
-/// often a slip or two.
+/// Rows as somebody may draw them: n - 1 of them where there are rows at all, a spanning tree if there is one, where rows have
+/// states often one that keeps them, and then often a slip or two.
 pub fn rows(rng: &mut Rng, network: &Network) -> Vec<u16> {
-    let mut rows = forest(rng, network);
+    let mut rows = if network.version == 2 && !rng.once_in(3) {
+        layout(rng, network)
+    } else {
+        forest(rng, network)
+    };
     while rows.len() < network.width() {
         let row = some_row(rng, network);
         rows.push(row);

@@ -1,5 +1,6 @@
-//! Document 01's operations but Open: the number of the check that refuses a call, or what the call writes in the first
-//! places of what it is lent. A buffer is told by its number of places; its content has no say.
+//! Document 01's operations but Open, with document 02's row states (#102): the number of the check that refuses a call,
+//! or what the call writes in the first places of what it is lent. A buffer is told by its number of places; its content
+//! has no say.
 
 use crate::costs::{self, Vector};
 use crate::file::Network;
@@ -24,6 +25,9 @@ fn drawn(network: &Network, rows: &[u16]) -> Result<(), u32> {
     }
     if !trees::is_tree(network, rows) {
         return Err(10);
+    }
+    if !trees::keeps_states(network, rows) {
+        return Err(15);
     }
     Ok(())
 }

@@ -1,5 +1,5 @@
-//! Front, as linked from the proved library, held to document 01 and to the front by subsets of rows: worked networks
-//! first, then seeded ones with tables of any length, both tables compared whole.
+//! Front, as linked from the proved library, held to documents 01 and 02 and to the front by subsets of rows: worked
+//! networks first, then seeded ones with tables of any length, both tables compared whole.
 
 use std::collections::BTreeSet;
 
@@ -7,7 +7,7 @@ use planner_tests::costs::{self, Vector};
 use planner_tests::damage::damaged;
 use planner_tests::draw;
 use planner_tests::ffi::{self, SHORT_ANSWER};
-use planner_tests::file::{network_a, Network, Row, MOST};
+use planner_tests::file::{network_a, Network, Row, BARRED, MOST, MUST, OPEN};
 use planner_tests::lent::Lent;
 use planner_tests::operations::{self, Listed};
 use planner_tests::rng::Rng;
@@ -74,18 +74,31 @@ fn network_a_of_document_01() {
     assert_eq!(front(&a, 512), (whole, true));
 }
 
+/// The front is over the trees that keep the states: a vector may join it whose dominating trees are left out.
+#[test]
+fn network_a_with_states() {
+    for (states, whole) in [
+        (
+            [OPEN, OPEN, OPEN, OPEN],
+            vec![vec![7, 7], vec![8, 6], vec![11, 5]],
+        ),
+        ([BARRED, OPEN, OPEN, OPEN], vec![vec![8, 6], vec![11, 5]]),
+        ([BARRED, OPEN, OPEN, MUST], vec![vec![8, 6]]),
+        ([OPEN, MUST, OPEN, OPEN], vec![vec![9, 6], vec![11, 5]]),
+        ([OPEN, MUST, MUST, OPEN], vec![vec![11, 5]]),
+        ([MUST, OPEN, OPEN, BARRED], vec![vec![9, 7]]),
+    ] {
+        let network = network_a().with_states(&states);
+        assert_eq!(front(&network, 1), (whole[..1].to_vec(), whole.len() == 1));
+        assert_eq!(front(&network, 512), (whole, true));
+    }
+}
+
 /// A network of rows with a length, which is added, and a risk, of which the worst counts.
 fn lengths_and_risks(n: u8, rows: &[[u32; 4]]) -> Network {
-    let row = |&[a, b, length, risk]: &[u32; 4]| Row {
-        ends: [a as u8, b as u8],
-        street: 0,
-        costs: vec![length, risk],
-    };
-    Network {
-        n,
-        kinds: vec![0, 1],
-        rows: rows.iter().map(row).collect(),
-    }
+    let row =
+        |&[a, b, length, risk]: &[u32; 4]| Row::new([a as u8, b as u8], 0, vec![length, risk]);
+    Network::new(n, vec![0, 1], rows.iter().map(row).collect())
 }
 
 /// Document 000, table 2: its first worked network.
@@ -162,18 +175,9 @@ fn worked_networks_of_document_000() {
 /// Two rows for each step of a line, the one dear in the first criterion, the other in the second: no tree dominates
 /// another, and each vector differs.
 fn all_undominated(steps: u8) -> Network {
-    let row = |a: u8, costs: [u32; 2]| Row {
-        ends: [a, a + 1],
-        street: 0,
-        costs: costs.to_vec(),
-    };
-    Network {
-        n: steps + 1,
-        kinds: vec![0, 2],
-        rows: (1..=steps)
-            .flat_map(|a| [row(a, [1 << a, 0]), row(a, [0, 1 << a])])
-            .collect(),
-    }
+    let row = |a: u8, costs: [u32; 2]| Row::new([a, a + 1], 0, costs.to_vec());
+    let rows = (1..=steps).flat_map(|a| [row(a, [1 << a, 0]), row(a, [0, 1 << a])]);
+    Network::new(steps + 1, vec![0, 2], rows.collect())
 }
 
 /// Fronts of 2 to the power of the steps, longer than any table that the library may keep of its own.
@@ -202,11 +206,7 @@ fn a_full_table_is_not_a_cut_front() {
         row.costs.iter_mut().for_each(|cost| *cost += 100);
     }
     for a in 1..=5 {
-        network.rows.push(Row {
-            ends: [a, a + 1],
-            street: 0,
-            costs: vec![1, 1],
-        });
+        network.rows.push(Row::new([a, a + 1], 0, vec![1, 1]));
     }
     for capacity in 1..5 {
         assert_eq!(front(&network, capacity), (vec![vec![5, 5]], true));
@@ -252,8 +252,8 @@ fn tables(read: &Listed, rng: &mut Rng) -> [usize; 3] {
     [costs, witnesses, rng.pick(&[0, 1, 2, 2, 2, 2, 2, 2, 3, 5])]
 }
 
-#[test]
-fn seeded_networks() {
+/// Front over networks that are made so.
+fn seeded(make: impl Fn(&mut Rng) -> Network) {
     let mut of_code = [0; 256];
     let mut whole = 0;
     let mut cut = 0;
@@ -261,7 +261,7 @@ fn seeded_networks() {
     let mut longest = 0;
     for seed in 0..NETWORKS {
         let rng = &mut Rng::new(seed);
-        let mut network = draw::network(rng, 7, 12);
+        let mut network = make(rng);
         if rng.once_in(2) {
             spread_costs(&mut network, rng);
         }
@@ -293,6 +293,16 @@ fn seeded_networks() {
     assert!(whole >= ENOUGH && cut >= ENOUGH && single >= ENOUGH);
 }
 
+#[test]
+fn seeded_networks() {
+    seeded(|rng| draw::network(rng, 7, 12));
+}
+
+#[test]
+fn seeded_networks_with_states() {
+    seeded(|rng| draw::network_with_states(rng, 7, 12));
+}
+
 /// Many criteria and costs of any size: fronts of some hundred vectors, which grow and shrink on the way.
 #[test]
 fn seeded_networks_with_long_fronts() {
@@ -316,12 +326,12 @@ fn seeded_networks_with_long_fronts() {
     assert!(over_64 >= 50);
 }
 
-#[test]
-fn damaged_files() {
+/// Damaged files of networks that are made so; each of these checks must refuse many.
+fn damaged_files(make: impl Fn(&mut Rng) -> Network, codes: &[usize]) {
     let mut of_code = [0; 256];
     for seed in 0..20_000 {
         let rng = &mut Rng::new(seed);
-        let network = draw::network(rng, 5, 8);
+        let network = make(rng);
         let file = damaged(&network, rng);
         let read = Listed::read(&file);
         let tables = [
@@ -331,6 +341,17 @@ fn damaged_files() {
         ];
         of_code[hold(&file, &read, tables, rng) as usize] += 1;
     }
-    println!("calls by code, 0 to 12: {:?}", &of_code[..13]);
-    assert!(of_code[1..8].iter().all(|&count| count >= ENOUGH));
+    println!("calls by code, 0 to 14: {:?}", &of_code[..15]);
+    assert!(codes.iter().all(|&code| of_code[code] >= ENOUGH));
+}
+
+#[test]
+fn damaged_files_of_version_1() {
+    damaged_files(|rng| draw::network(rng, 5, 8), &[1, 2, 3, 4, 5, 6, 7]);
+}
+
+#[test]
+fn damaged_files_of_version_2() {
+    let make = |rng: &mut Rng| draw::network_with_states(rng, 5, 8);
+    damaged_files(make, &[1, 2, 3, 4, 5, 6, 7, 14]);
 }

@@ -1,7 +1,7 @@
-//! Open, as linked from the proved library, held to document 01: directed files first, then 200,000 seeded ones
-//! against the independent reading.
+//! Open, as linked from the proved library, held to documents 01 and 02: directed files first, then 200,000 seeded ones
+//! of each version against the independent reading.
 
-use planner_tests::damage::{Fault, Sizes, FAULTS};
+use planner_tests::damage::{faults, Fault, Sizes};
 use planner_tests::ffi::{self, SHORT_ANSWER};
 use planner_tests::file::{mend_length, network_a, Network, MOST, NETWORK_A};
 use planner_tests::lent::Lent;
@@ -81,9 +81,43 @@ fn sizes_at_their_limits() {
 
 #[test]
 fn the_longest_file() {
-    let file = sound(32, 256, 4).encode();
+    let network = sound(32, 256, 4);
+    let file = network.encode();
     assert_eq!(file.len(), 5_133);
     expect_outcome(&file, Ok((32, 256, 4)));
+    let file = network.with_any_states(&mut Rng::new(7)).encode();
+    assert_eq!(file.len(), 5_389);
+    expect_outcome(&file, Ok((32, 256, 4)));
+}
+
+#[test]
+fn states_at_their_limits() {
+    for row in 0..4 {
+        for state in 0..=255 {
+            let mut network = network_a().with_states(&[]);
+            network.rows[row].state = state;
+            let outcome = if state <= 2 { Ok((3, 4, 2)) } else { Err(14) };
+            expect_outcome(&network.encode(), outcome);
+        }
+    }
+}
+
+/// A file of one version whose first byte says the other is refused by 4, unless it has no rows.
+#[test]
+fn the_version_decides_the_rows_length() {
+    let a = network_a();
+    for (network, other) in [(a.clone(), 2), (a.with_states(&[]), 1)] {
+        let mut file = network.encode();
+        file[0] = other;
+        expect_outcome(&file, Err(4));
+        for version in [0, 3, 4, 255] {
+            file[0] = version;
+            expect_outcome(&file, Err(1));
+        }
+    }
+    let mut file = sound(2, 0, 1).encode();
+    file[0] = 2;
+    expect_outcome(&file, Ok((2, 0, 1)));
 }
 
 #[test]
@@ -162,45 +196,61 @@ fn a_check_looks_at_the_whole_file_before_the_next() {
     expect_outcome(&network.encode(), Err(6));
     network.kinds[2] = 3;
     expect_outcome(&network.encode(), Err(5));
+
+    let mut network = sound(5, 9, 3).with_states(&[3]);
+    expect_outcome(&network.encode(), Err(14));
+    network.rows[8].costs[2] = MOST + 1;
+    expect_outcome(&network.encode(), Err(7));
 }
 
 /// A file with the faults of several checks at once is refused by the first of them, whichever they are.
 #[test]
 fn the_first_check_decides() {
-    for faults in 0..128u32 {
-        let has = |check: u32| faults >> (check - 1) & 1 == 1;
-        let mut network = sound(4, 6, 2);
-        if has(7) {
-            network.rows[0].costs[1] = MOST + 1;
-        }
-        if has(6) {
-            network.rows[3].ends = [0, 2];
-        }
-        if has(5) {
-            network.kinds[1] = 3;
-        }
-        if has(3) {
-            network.n = 33;
-        }
-        let mut file = network.encode();
-        if has(4) {
-            file.push(0);
-            mend_length(&mut file);
-        }
-        if has(2) {
-            file[4] += 1;
-        }
-        if has(1) {
-            file[0] = 2;
-        }
-        match faults {
-            0 => expect_outcome(&file, Ok((4, 6, 2))),
-            _ => expect_outcome(&file, Err(faults.trailing_zeros() + 1)),
+    const ORDER: [u32; 8] = [1, 2, 3, 4, 5, 6, 7, 14];
+    for (version, checks) in [(1, 7), (2, 8)] {
+        for chosen in 0..1 << checks {
+            let has = |check: u32| {
+                let place = ORDER.iter().position(|&other| other == check);
+                chosen >> place.unwrap() & 1 == 1
+            };
+            let mut network = sound(4, 6, 2);
+            network.version = version;
+            if has(14) {
+                network.rows[0].state = 3;
+            }
+            if has(7) {
+                network.rows[0].costs[1] = MOST + 1;
+            }
+            if has(6) {
+                network.rows[3].ends = [0, 2];
+            }
+            if has(5) {
+                network.kinds[1] = 3;
+            }
+            if has(3) {
+                network.n = 33;
+            }
+            let mut file = network.encode();
+            if has(4) {
+                file.push(0);
+                mend_length(&mut file);
+            }
+            if has(2) {
+                file[4] += 1;
+            }
+            if has(1) {
+                file[0] = 3;
+            }
+            match ORDER.into_iter().find(|&check| has(check)) {
+                None => expect_outcome(&file, Ok((4, 6, 2))),
+                Some(first) => expect_outcome(&file, Err(first)),
+            }
         }
     }
 }
 
-/// How many seeded files there are, and how many at the least must run into each check and come of each fault.
+/// How many seeded files of each version there are, and how many at the least must run into each check and come of each
+/// fault.
 const FILES: usize = 200_000;
 const ENOUGH_OF_A_CHECK: usize = 5_000;
 const ENOUGH_OF_A_FAULT: usize = 1_000;
@@ -222,11 +272,12 @@ fn compare(file: &[u8], rng: &mut Rng) -> u32 {
     }
 }
 
-#[test]
-fn seeded_files() {
+/// Files of this version, the longest of so many bytes, which these checks may refuse.
+fn seeded_files(version: u8, longest_file: usize, checks: &[usize]) {
     let mut rng = Rng::new(20_260_101);
-    let mut of_check = [0; 8];
-    let mut of_fault = [0; FAULTS.len()];
+    let faults = faults(version);
+    let mut of_check = [0; 15];
+    let mut of_fault = vec![0; faults.len()];
     let mut longest = 0;
     let mut files = 0;
 
@@ -234,7 +285,7 @@ fn seeded_files() {
     for n in 2..=32 {
         for m in 0..=256 {
             for k in 1..=4 {
-                let file = Network::random(&mut rng, n, m, k).encode();
+                let file = Sizes { version, n, m, k }.network(&mut rng).encode();
                 assert_eq!(reading::open(&file), Ok((n as u32, m as u32, k as u32)));
                 compare(&file, &mut rng);
                 of_check[0] += 1;
@@ -243,16 +294,16 @@ fn seeded_files() {
             }
         }
     }
-    assert_eq!(longest, 5_133);
+    assert_eq!(longest, longest_file);
 
     // The rest with no fault, one, or several at once.
     while files < FILES {
-        let sizes = Sizes::random(&mut rng);
-        let mut file = Network::random(&mut rng, sizes.n, sizes.m, sizes.k).encode();
+        let sizes = Sizes::random(version, &mut rng);
+        let mut file = sizes.network(&mut rng).encode();
         let mut had = Vec::new();
         for _ in 0..rng.pick(&[0, 1, 1, 1, 1, 1, 2, 2, 3, 4]) {
-            let which = rng.between(0, FAULTS.len() - 1);
-            if (FAULTS[which].damage)(&mut file, sizes, &mut rng) {
+            let which = rng.between(0, faults.len() - 1);
+            if (faults[which].damage)(&mut file, sizes, &mut rng) {
                 had.push(which);
             }
         }
@@ -260,7 +311,7 @@ fn seeded_files() {
         match had[..] {
             [] => assert_eq!(number, 0),
             [alone] => {
-                let Fault { name, check, .. } = FAULTS[alone];
+                let Fault { name, check, .. } = faults[alone];
                 assert_eq!(number, check.unwrap_or(number), "{name}");
                 of_fault[alone] += 1;
             }
@@ -271,10 +322,25 @@ fn seeded_files() {
     }
 
     println!("{files} files, by the check that refused them (0: accepted): {of_check:?}");
-    for (fault, count) in FAULTS.iter().zip(of_fault) {
+    for (fault, count) in faults.iter().zip(of_fault) {
         println!("{count:6} with one fault: {}", fault.name);
         assert!(count >= ENOUGH_OF_A_FAULT, "too few: {}", fault.name);
     }
-    assert!(of_check.iter().all(|&count| count >= ENOUGH_OF_A_CHECK));
-    assert_eq!(of_check.iter().sum::<usize>(), FILES);
+    assert!(checks
+        .iter()
+        .all(|&check| of_check[check] >= ENOUGH_OF_A_CHECK));
+    assert_eq!(
+        checks.iter().map(|&check| of_check[check]).sum::<usize>(),
+        FILES
+    );
+}
+
+#[test]
+fn seeded_files_of_version_1() {
+    seeded_files(1, 5_133, &[0, 1, 2, 3, 4, 5, 6, 7]);
+}
+
+#[test]
+fn seeded_files_of_version_2() {
+    seeded_files(2, 5_389, &[0, 1, 2, 3, 4, 5, 6, 7, 14]);
 }

@@ -1,10 +1,10 @@
-//! Page, as linked from the proved library, held to document 01 and to the list by subsets of rows: known counts first,
-//! then runs of pages over seeded networks, refused calls between, every page compared whole.
+//! Page, as linked from the proved library, held to documents 01 and 02 and to the list by subsets of rows: known counts
+//! first, then runs of pages over seeded networks, refused calls between, every page compared whole.
 
 use planner_tests::damage::damaged;
 use planner_tests::draw;
 use planner_tests::ffi::{self, SHORT_ANSWER};
-use planner_tests::file::{network_a, Network, Row};
+use planner_tests::file::{network_a, Network, Row, BARRED, MUST, OPEN};
 use planner_tests::lent::Lent;
 use planner_tests::operations::{self, Listed};
 use planner_tests::rng::Rng;
@@ -40,16 +40,8 @@ fn hold(
 
 /// A network of added costs 0 with these rows.
 fn with_rows(n: u8, pairs: &[[u8; 2]]) -> Network {
-    let row = |&ends: &[u8; 2]| Row {
-        ends,
-        street: 0,
-        costs: vec![0],
-    };
-    Network {
-        n,
-        kinds: vec![0],
-        rows: pairs.iter().map(row).collect(),
-    }
+    let row = |&ends: &[u8; 2]| Row::new(ends, 0, vec![0]);
+    Network::new(n, vec![0], pairs.iter().map(row).collect())
 }
 
 fn complete(n: u8) -> Network {
@@ -184,6 +176,86 @@ fn the_first_check_decides() {
     assert_eq!(hold(&none, &Listed::read(&none), 1, &[], 2, rng).0, 12);
 }
 
+/// With states: 12 also where the must rows have a cycle, and of the start 15 between 10 and 13.
+#[test]
+fn the_first_check_decides_with_states() {
+    let rng = &mut Rng::new(15);
+    let file = network_a()
+        .with_states(&[BARRED, OPEN, OPEN, MUST])
+        .encode();
+    let read = Listed::read(&file);
+    let starts: [(&[u16], u32); 10] = [
+        (&[], 0),
+        (&[0], 8),
+        (&[0, 4], 9),
+        (&[0, 1], 10),
+        (&[0, 2], 15),
+        (&[3, 0], 15),
+        (&[2, 1], 15),
+        (&[3, 2], 13),
+        (&[1, 3], 0),
+        (&[2, 3], 0),
+    ];
+    for (start, number) in starts {
+        assert_eq!(hold(&file, &read, 1, start, 2, rng).0, 11);
+        assert_eq!(hold(&file, &read, 4, start, 2, rng).0, number);
+    }
+    for states in [
+        [BARRED, BARRED, OPEN, BARRED],
+        [MUST, MUST, OPEN, OPEN],
+        [MUST, OPEN, MUST, MUST],
+        [MUST; 4],
+        [BARRED; 4],
+    ] {
+        let file = network_a().with_states(&states).encode();
+        let read = Listed::read(&file);
+        for (start, _) in starts {
+            for places in 0..3 {
+                assert_eq!(hold(&file, &read, places, start, 2, rng).0, 12);
+            }
+        }
+    }
+}
+
+/// A list by its pages is the plain list without the trees that break a state, and its trees come in the same order.
+#[test]
+fn states_only_leave_trees_out() {
+    let plain = petersen();
+    let list = trees::list(&plain);
+    // a ring, then with a spoke; a must path; three bridges' worth of barred rows
+    for states in [
+        vec![MUST, OPEN, OPEN, MUST],
+        vec![BARRED, OPEN, OPEN, BARRED, OPEN, OPEN, BARRED],
+        vec![MUST, MUST, BARRED, MUST, BARRED, MUST],
+        vec![MUST, MUST, MUST, BARRED, BARRED, BARRED, OPEN, OPEN, MUST],
+    ] {
+        let network = plain.clone().with_states(&states);
+        let kept: Vec<Vec<u16>> = list
+            .iter()
+            .filter(|tree| trees::keeps_states(&network, tree))
+            .cloned()
+            .collect();
+        assert!(!kept.is_empty());
+        for trees_a_page in [1, 7, 2_000] {
+            assert_eq!(listed(&network, trees_a_page), kept);
+        }
+    }
+}
+
+/// One tree is left where every row of it must be dug, whatever else there is, and where all others are barred.
+#[test]
+fn one_tree_left() {
+    let network = complete(7);
+    let tree = draw::forest(&mut Rng::new(1), &network);
+    for (in_tree, beside) in [(MUST, OPEN), (OPEN, BARRED), (MUST, BARRED)] {
+        let states: Vec<u8> = (0..network.m() as u16)
+            .map(|row| if tree.contains(&row) { in_tree } else { beside })
+            .collect();
+        let only = listed(&network.clone().with_states(&states), 3);
+        assert_eq!(only, [trees::minimal_path(&network, &tree)]);
+    }
+}
+
 /// A network that has only one tree, however many half-grown paths lead nowhere: a star with the plant at its rim.
 #[test]
 fn a_star_of_32_nodes() {
@@ -221,15 +293,15 @@ fn any_start(read: &Listed, rng: &mut Rng) -> Vec<u16> {
     }
 }
 
-#[test]
-fn runs_of_pages_over_seeded_networks() {
+/// Runs of pages over networks that are made so; each of these codes must come often.
+fn runs_of_pages(make: impl Fn(&mut Rng) -> Network, codes: &[usize]) {
     let mut of_code = [0; 256];
     let mut trees = 0;
     let mut most = 0;
     let mut to_the_end = 0;
     for seed in 0..NETWORKS {
         let rng = &mut Rng::new(seed);
-        let network = draw::network(rng, 7, 15);
+        let network = make(rng);
         let file = network.encode();
         let read = Listed::read(&file);
         let listed = read.as_ref().unwrap();
@@ -262,20 +334,32 @@ fn runs_of_pages_over_seeded_networks() {
     }
     println!("{NETWORKS} networks with {trees} trees, the most {most}");
     println!("{to_the_end} runs to the end of their list");
-    println!("calls by code, 0 to 13: {:?}", &of_code[..14]);
+    println!("calls by code, 0 to 15: {:?}", &of_code[..16]);
     println!("with a short answer: {}", of_code[255]);
-    for code in [0, 8, 9, 10, 11, 12, 13, 255] {
+    for &code in codes {
         assert!(of_code[code] >= ENOUGH, "too few: {code}");
     }
     assert!(to_the_end >= ENOUGH && most >= 1_000);
 }
 
 #[test]
-fn damaged_files() {
+fn runs_of_pages_over_seeded_networks() {
+    let make = |rng: &mut Rng| draw::network(rng, 7, 15);
+    runs_of_pages(make, &[0, 8, 9, 10, 11, 12, 13, 255]);
+}
+
+#[test]
+fn runs_of_pages_over_seeded_networks_with_states() {
+    let make = |rng: &mut Rng| draw::network_with_states(rng, 7, 15);
+    runs_of_pages(make, &[0, 8, 9, 10, 11, 12, 13, 15, 255]);
+}
+
+/// Damaged files of networks that are made so; each of these checks must refuse many.
+fn damaged_files(make: impl Fn(&mut Rng) -> Network, codes: &[usize]) {
     let mut of_code = [0; 256];
     for seed in 0..20_000 {
         let rng = &mut Rng::new(seed);
-        let network = draw::network(rng, 5, 8);
+        let network = make(rng);
         let file = damaged(&network, rng);
         let read = Listed::read(&file);
         let start = if rng.once_in(2) {
@@ -288,7 +372,18 @@ fn damaged_files() {
         let (code, _) = hold(&file, &read, places, &start, answer, rng);
         of_code[code as usize] += 1;
     }
-    println!("calls by code, 0 to 13: {:?}", &of_code[..14]);
-    assert!(of_code[1..8].iter().all(|&count| count >= ENOUGH));
+    println!("calls by code, 0 to 15: {:?}", &of_code[..16]);
+    assert!(codes.iter().all(|&code| of_code[code] >= ENOUGH));
     assert!(of_code[255] >= ENOUGH);
+}
+
+#[test]
+fn damaged_files_of_version_1() {
+    damaged_files(|rng| draw::network(rng, 5, 8), &[1, 2, 3, 4, 5, 6, 7]);
+}
+
+#[test]
+fn damaged_files_of_version_2() {
+    let make = |rng: &mut Rng| draw::network_with_states(rng, 5, 8);
+    damaged_files(make, &[1, 2, 3, 4, 5, 6, 7, 14]);
 }

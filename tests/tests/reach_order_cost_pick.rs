@@ -1,10 +1,12 @@
-//! Reach, Order, Cost and Pick, as linked from the proved library, held to document 01: its trials first, then seeded
+//! Reach, Order, Cost and Pick, as linked from the proved library, held to documents 01 and 02: trials first, then seeded
 //! networks and pages against the independent code, every buffer compared whole.
+
+use std::collections::BTreeMap;
 
 use planner_tests::damage::damaged;
 use planner_tests::draw;
 use planner_tests::ffi::{self, SHORT_ANSWER};
-use planner_tests::file::{network_a, Network, Row, MOST};
+use planner_tests::file::{network_a, Network, Row, BARRED, MOST, MUST, OPEN};
 use planner_tests::lent::Lent;
 use planner_tests::operations;
 use planner_tests::rng::Rng;
@@ -105,9 +107,7 @@ fn trials_of_document_01() {
         assert_eq!(cost(&a, &tree), Ok(vector.to_vec()));
         assert_eq!(cost(&a, &[tree[1], tree[0]]), Ok(vector.to_vec()));
     }
-    let mut answer = [0; 2];
-    assert_eq!(ffi::reach(&a.encode(), &mut answer), 0);
-    assert_eq!(answer, [0b111, 3]);
+    assert_eq!(reach(&a), [0b111, 3]);
 }
 
 /// A row number that is too high is 9 also where it stands twice, and a wrong number of rows is 8 whatever they are.
@@ -129,22 +129,66 @@ fn the_first_check_of_drawn_rows_decides() {
     assert_eq!(cost(&empty, &[0, 1]), Err(9));
 }
 
+fn reach(network: &Network) -> [u32; 2] {
+    let mut answer = [0; 2];
+    assert_eq!(ffi::reach(&network.encode(), &mut answer), 0);
+    answer
+}
+
+/// Reach goes over the rows that are not barred, whatever must be dug.
+#[test]
+fn reach_with_states() {
+    let a = network_a();
+    for (states, answer) in [
+        ([OPEN, OPEN, OPEN, OPEN], [0b111, 3]),
+        ([MUST, MUST, MUST, MUST], [0b111, 3]),
+        ([BARRED, BARRED, BARRED, BARRED], [0b001, 1]),
+        ([BARRED, BARRED, OPEN, OPEN], [0b111, 3]),
+        ([BARRED, OPEN, BARRED, OPEN], [0b111, 3]),
+        ([OPEN, MUST, BARRED, BARRED], [0b011, 2]),
+        ([BARRED, BARRED, MUST, BARRED], [0b101, 2]),
+    ] {
+        assert_eq!(reach(&a.clone().with_states(&states)), answer);
+    }
+}
+
+/// A drawn tree that breaks a state is 15: after 8, 9 and 10, before 11, and also where no tree keeps the states.
+#[test]
+fn drawn_trees_that_break_a_state() {
+    let a = network_a();
+    let stated = |states: [u8; 4]| a.clone().with_states(&states);
+    let b = stated([BARRED, OPEN, OPEN, MUST]);
+    assert_eq!(order(&b, &[3, 1], 2), Ok(vec![1, 3]));
+    assert_eq!(cost(&b, &[3, 1]), Ok(vec![9, 6]));
+    // a barred row, a must row left out, both
+    for rows in [[3, 0], [2, 1], [0, 2]] {
+        assert_eq!(order(&b, &rows, 2), Err(15));
+        assert_eq!(order(&b, &rows, 0), Err(15));
+        assert_eq!(cost(&b, &rows), Err(15));
+    }
+    assert_eq!(order(&b, &[0, 1], 2), Err(10));
+    assert_eq!(order(&b, &[0, 4], 2), Err(9));
+    assert_eq!(order(&b, &[0], 2), Err(8));
+    assert_eq!(order(&b, &[1, 3], 1), Err(11));
+    // two parallel must rows, every row must, every row barred: no tree keeps the states
+    for states in [[MUST, MUST, OPEN, OPEN], [MUST; 4], [BARRED; 4]] {
+        let network = stated(states);
+        for tree in [[0, 2], [0, 3], [1, 2], [1, 3], [2, 3]] {
+            assert_eq!(order(&network, &tree, 2), Err(15));
+            assert_eq!(cost(&network, &tree), Err(15));
+        }
+        assert_eq!(order(&network, &[0, 1], 2), Err(10));
+    }
+}
+
 /// 32 nodes and 256 rows, the last of them at row number 255, and the greatest sum.
 #[test]
 fn the_largest_network() {
-    let row = |a: u8, b: u8| Row {
-        ends: [a, b],
-        street: a as u16 % 3,
-        costs: vec![MOST; 3],
-    };
+    let row = |a: u8, b: u8| Row::new([a, b], a as u16 % 3, vec![MOST; 3]);
     let mut line: Vec<Row> = (1..32).map(|a| row(a, a + 1)).collect();
     let mut rows = vec![row(32, 31); 256 - line.len()];
     rows.append(&mut line);
-    let network = Network {
-        n: 32,
-        kinds: vec![0, 1, 2],
-        rows,
-    };
+    let network = Network::new(32, vec![0, 1, 2], rows);
     let path: Vec<u16> = (225..256).collect();
     let drawn: Vec<u16> = path.iter().rev().copied().collect();
     assert_eq!(order(&network, &drawn, 31), Ok(path.clone()));
@@ -152,25 +196,27 @@ fn the_largest_network() {
         cost(&network, &drawn),
         Ok(vec![31_000_000, MOST, 31_000_000])
     );
-    let mut answer = [0; 2];
-    assert_eq!(ffi::reach(&network.encode(), &mut answer), 0);
-    assert_eq!(answer, [u32::MAX, 32]);
+    assert_eq!(reach(&network), [u32::MAX, 32]);
+
+    // the line must be dug, and all else is barred
+    let mut states = vec![BARRED; 225];
+    states.extend([MUST; 31]);
+    let network = network.with_states(&states);
+    assert_eq!(network.encode().len(), 9 + 3 + 256 * 17);
+    assert_eq!(order(&network, &drawn, 31), Ok(path));
+    assert_eq!(reach(&network), [u32::MAX, 32]);
+    let mut beside = drawn.clone();
+    beside[0] = 0;
+    assert_eq!(order(&network, &beside, 31), Err(15));
 }
 
 /// How many seeded networks there are, and how many at the least must come of everything that is counted.
 const NETWORKS: u64 = 30_000;
 const ENOUGH: usize = 500;
 
-/// What the seeded networks are, so that a generator that misses something is seen.
+/// What the seeded networks are, so that a generator that misses something is seen: how many there are of each shape.
 #[derive(Debug, Default)]
-struct Shapes {
-    with_a_tree: usize,
-    without: usize,
-    untouched_nodes: usize,
-    parallel_rows: usize,
-    all_32_nodes: usize,
-    over_200_rows: usize,
-}
+struct Shapes(BTreeMap<&'static str, usize>);
 
 impl Shapes {
     fn count(&mut self, network: &Network) {
@@ -179,42 +225,68 @@ impl Shapes {
         let mut pairs: Vec<[u8; 2]> = network.rows.iter().map(|row| row.ends).collect();
         pairs.iter_mut().for_each(|pair| pair.sort());
         pairs.sort();
-        self.with_a_tree += connected as usize;
-        self.without += !connected as usize;
-        self.untouched_nodes += !(1..=network.n).all(touched) as usize;
-        self.parallel_rows += pairs.windows(2).any(|two| two[0] == two[1]) as usize;
-        self.all_32_nodes += (network.n == 32) as usize;
-        self.over_200_rows += (network.m() > 200) as usize;
+        self.add("with all nodes reached", connected);
+        self.add("with nodes not reached", !connected);
+        self.add("untouched nodes", !(1..=network.n).all(touched));
+        self.add(
+            "parallel rows",
+            pairs.windows(2).any(|two| two[0] == two[1]),
+        );
+        self.add("all 32 nodes", network.n == 32);
+        self.add("over 200 rows", network.m() > 200);
+        if network.version == 2 {
+            self.count_states(network, connected);
+        }
+    }
+
+    fn count_states(&mut self, network: &Network, connected: bool) {
+        let cycle = trees::must_cycle(network);
+        let some = |state| network.rows.iter().any(|row| row.state == state);
+        let every = |state| network.m() > 0 && network.rows.iter().all(|row| row.state == state);
+        let plain = network.clone().with_states(&vec![OPEN; network.m()]);
+        self.add(
+            "must and barred rows, and a tree",
+            some(MUST) && some(BARRED) && connected && !cycle,
+        );
+        self.add(
+            "must rows with a cycle, all nodes reached",
+            cycle && connected,
+        );
+        self.add("parallel must rows", parallel_musts(network));
+        self.add(
+            "barred bridges",
+            !connected && trees::reached(&plain).len() == network.n as usize,
+        );
+        self.add("every row must", every(MUST));
+        self.add("every row barred", every(BARRED));
+    }
+
+    fn add(&mut self, shape: &'static str, is: bool) {
+        *self.0.entry(shape).or_default() += is as usize;
     }
 
     fn enough(&self) -> bool {
-        let Shapes {
-            with_a_tree,
-            without,
-            untouched_nodes,
-            parallel_rows,
-            all_32_nodes,
-            over_200_rows,
-        } = *self;
-        [
-            with_a_tree,
-            without,
-            untouched_nodes,
-            parallel_rows,
-            all_32_nodes,
-            over_200_rows,
-        ]
-        .iter()
-        .all(|&count| count >= ENOUGH)
+        self.0.values().all(|&count| count >= ENOUGH)
     }
 }
 
+fn parallel_musts(network: &Network) -> bool {
+    let mut pairs: Vec<[u8; 2]> = network
+        .rows
+        .iter()
+        .filter(|row| row.state == MUST)
+        .map(|row| [row.ends[0].min(row.ends[1]), row.ends[0].max(row.ends[1])])
+        .collect();
+    pairs.sort();
+    pairs.windows(2).any(|two| two[0] == two[1])
+}
+
 /// Half of them with few nodes and rows, half of any size.
-fn seeded_network(rng: &mut Rng) -> Network {
+fn sizes(rng: &mut Rng) -> (usize, usize) {
     if rng.once_in(2) {
-        draw::network(rng, 6, 12)
+        (6, 12)
     } else {
-        draw::network(rng, 32, 256)
+        (32, 256)
     }
 }
 
@@ -228,15 +300,16 @@ fn places(needed: usize, rng: &mut Rng) -> usize {
     }
 }
 
-#[test]
-fn seeded_networks() {
+/// Reach, Order and Cost over networks that are made so; each of these checks must refuse many files, and each of those many
+/// drawn rows.
+fn seeded(make: impl Fn(&mut Rng) -> Network, of_files: &[usize], of_rows: &[usize]) {
     let mut shapes = Shapes::default();
     let mut of_reach = [0; 256];
-    let mut of_order = [0; 12];
-    let mut of_cost = [0; 12];
+    let mut of_order = [0; 16];
+    let mut of_cost = [0; 16];
     for seed in 0..NETWORKS {
         let rng = &mut Rng::new(seed);
-        let network = seeded_network(rng);
+        let network = make(rng);
         shapes.count(&network);
         let file = match rng.between(0, 3) {
             0 => damaged(&network, rng),
@@ -254,15 +327,37 @@ fn seeded_networks() {
         }
     }
     println!("{NETWORKS} networks: {shapes:?}");
-    println!("Reach by code, 0 to 7: {:?}", &of_reach[..8]);
+    println!("Reach by code, 0 to 14: {:?}", &of_reach[..15]);
     println!("Reach with a short answer: {}", of_reach[255]);
-    println!("Order by code, 0 to 11: {of_order:?}");
-    println!("Cost by code, 0 to 11: {of_cost:?}");
+    println!("Order by code, 0 to 15: {of_order:?}");
+    println!("Cost by code, 0 to 15: {of_cost:?}");
     assert!(shapes.enough());
-    assert!(of_reach[..8].iter().all(|&count| count >= ENOUGH));
-    assert!(of_reach[255] >= ENOUGH);
-    assert!(of_order.iter().all(|&count| count >= ENOUGH));
-    assert!(of_cost.iter().all(|&count| count >= ENOUGH));
+    assert!(of_reach[0] >= ENOUGH && of_reach[255] >= ENOUGH);
+    for &check in of_files {
+        assert!(of_reach[check] >= ENOUGH, "Reach, too few: {check}");
+    }
+    for &check in [0].iter().chain(of_files).chain(of_rows) {
+        assert!(of_order[check] >= ENOUGH, "Order, too few: {check}");
+        assert!(of_cost[check] >= ENOUGH, "Cost, too few: {check}");
+    }
+}
+
+#[test]
+fn seeded_networks() {
+    let make = |rng: &mut Rng| {
+        let (nodes, rows) = sizes(rng);
+        draw::network(rng, nodes, rows)
+    };
+    seeded(make, &[1, 2, 3, 4, 5, 6, 7], &[8, 9, 10, 11]);
+}
+
+#[test]
+fn seeded_networks_with_states() {
+    let make = |rng: &mut Rng| {
+        let (nodes, rows) = sizes(rng);
+        draw::network_with_states(rng, nodes, rows)
+    };
+    seeded(make, &[1, 2, 3, 4, 5, 6, 7, 14], &[8, 9, 10, 11, 15]);
 }
 
 /// Every sequence of a tree's rows has the same path and the same vector.

@@ -2,7 +2,7 @@
 
 use planner_tests::costs;
 use planner_tests::draw;
-use planner_tests::file::{network_a, Network};
+use planner_tests::file::{network_a, Network, OPEN};
 use planner_tests::operations::Listed;
 use planner_tests::reading;
 use planner_tests::rng::Rng;
@@ -12,6 +12,8 @@ use planner_tests::trees;
 fn a_file_is_read_back() {
     for seed in 0..2_000 {
         let network = draw::network(&mut Rng::new(seed), 32, 256);
+        assert_eq!(reading::network(&network.encode()), Ok(network));
+        let network = draw::network_with_states(&mut Rng::new(seed), 32, 256);
         assert_eq!(reading::network(&network.encode()), Ok(network));
     }
 }
@@ -91,4 +93,32 @@ fn the_list_ascends() {
         let reached = trees::reached(&network).len();
         assert_eq!(list.is_empty(), reached < network.n as usize);
     }
+}
+
+/// With states: the list is the plain list without the trees that break a state, and there is a tree exactly if the reached
+/// nodes are all and the must rows have no cycle. A tree that is grown with must rows first and barred rows last is one of
+/// them, if there are any.
+#[test]
+fn the_list_with_states() {
+    let mut empty = 0;
+    let mut by_a_cycle = 0;
+    for seed in 0..2_000 {
+        let rng = &mut Rng::new(seed);
+        let network = draw::network_with_states(rng, 6, 10);
+        let plain = network.clone().with_states(&vec![OPEN; network.m()]);
+        let mut kept = trees::list(&plain);
+        kept.retain(|tree| trees::keeps_states(&network, tree));
+        assert_eq!(trees::list(&network), kept);
+
+        let all = trees::reached(&network).len() == network.n as usize;
+        let cycle = trees::must_cycle(&network);
+        assert_eq!(kept.is_empty(), !all || cycle);
+        empty += kept.is_empty() as usize;
+        by_a_cycle += (all && cycle) as usize;
+
+        let layout = draw::layout(rng, &network);
+        let found = layout.len() == network.width() && trees::keeps_states(&network, &layout);
+        assert_eq!(found, !kept.is_empty());
+    }
+    assert!(empty >= 500 && by_a_cycle >= 100);
 }

@@ -6,7 +6,7 @@ use std::process::{Command, Stdio};
 
 use planner_tests::costs;
 use planner_tests::draw;
-use planner_tests::file::{network_a, Network, Row};
+use planner_tests::file::{network_a, Network, Row, BARRED, MUST, OPEN};
 use planner_tests::operations::Listed;
 use planner_tests::rng::Rng;
 
@@ -69,22 +69,13 @@ fn hold(input: &[u8]) -> String {
 }
 
 fn row(ends: [u8; 2], costs: &[u32]) -> Row {
-    Row {
-        ends,
-        street: 0,
-        costs: costs.to_vec(),
-    }
+    Row::new(ends, 0, costs.to_vec())
 }
 
 fn complete(n: u8) -> Network {
     let pairs = (1..=n).flat_map(|a| (a + 1..=n).map(move |b| [a, b]));
-    Network {
-        n,
-        kinds: vec![0],
-        rows: pairs
-            .map(|ends| row(ends, &[ends[0] as u32 * 7 % 5]))
-            .collect(),
-    }
+    let rows = pairs.map(|ends| row(ends, &[ends[0] as u32 * 7 % 5]));
+    Network::new(n, vec![0], rows.collect())
 }
 
 #[test]
@@ -104,16 +95,24 @@ fn refusals_stand_alone() {
         other
     };
     // the version, the length field, n, the rows' number, a kind, an end, a cost's high byte
-    let faults = [(0, 2), (4, 55), (5, 33), (7, 5), (9, 3), (11, 0), (15, 1)];
+    let faults = [(0, 3), (4, 55), (5, 33), (7, 5), (9, 3), (11, 0), (15, 1)];
     for (number, (at, to)) in (1..).zip(faults) {
         assert_eq!(hold(&changed(at, to)), format!("refused {number}\n"));
     }
-    let no_rows = Network {
-        n: 2,
-        kinds: vec![0],
-        rows: vec![],
-    };
+    let no_rows = Network::new(2, vec![0], vec![]);
     assert_eq!(hold(&no_rows.encode()), "refused 12\n");
+}
+
+/// Version 2: the printout has the same form, over the trees that keep the states.
+#[test]
+fn network_a_with_states() {
+    let stated = |states: [u8; 4]| network_a().with_states(&states).encode();
+    let text = "network 3 4 2\ntree 1 3 cost 9 6\ntree 2 3 cost 8 6\nfront 8 6 tree 2 3\nend trees 2 front 1 whole\n";
+    assert_eq!(hold(&stated([BARRED, OPEN, OPEN, MUST])), text);
+    assert_eq!(hold(&stated([MUST, MUST, OPEN, OPEN])), "refused 12\n");
+    assert_eq!(hold(&stated([BARRED; 4])), "refused 12\n");
+    assert_eq!(hold(&stated([OPEN, OPEN, OPEN, 3])), "refused 14\n");
+    assert_eq!(hold(&stated([OPEN; 4])), hold(&network_a().encode()));
 }
 
 #[test]
@@ -143,11 +142,7 @@ fn a_front_above_512_rows() {
     // 41 rows from the plant and 41 behind them: each pair of rows has a vector of its own on one line
     let near = (0..41).map(|i| row([1, 2], &[i, 40 - i]));
     let far = (0..41).map(|i| row([2, 3], &[41 * i, 41 * (40 - i)]));
-    let network = Network {
-        n: 3,
-        kinds: vec![0, 0],
-        rows: near.chain(far).collect(),
-    };
+    let network = Network::new(3, vec![0, 0], near.chain(far).collect());
     let text = hold(&network.encode());
     assert!(text.ends_with("end trees 1681 front 512 cut\n"));
 }
@@ -157,5 +152,8 @@ fn seeded_networks() {
     let mut rng = Rng::new(5);
     for _ in 0..400 {
         hold(&draw::network(&mut rng, 6, 11).encode());
+    }
+    for _ in 0..400 {
+        hold(&draw::network_with_states(&mut rng, 6, 11).encode());
     }
 }

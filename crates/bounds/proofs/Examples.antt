@@ -3,7 +3,7 @@ use mathlib.Core.Path.{_≡_, refl}
 use mathlib.Core.List.{[], _∷_}
 use Rattle.lists.specs.Lists.{filterB, insert, largest, member, range, sequences, sort, sum}
 use Rattle.graph.specs.Paths.{ascending, isMinimal, keysLess, placeOf, stepOf, stepsFrom, trees}
-use Rattle.costs.specs.Network.{Network, added, closing, graphOf, worst}
+use Rattle.costs.specs.Network.{Network, added, closing, graphOf, «open», worst}
 use Rattle.costs.specs.Costs.{streetsOf}
 use Rattle.bounds.specs.Bounds.{begins, behindPrefix, boundsFrom, dropUntil, dropWhile, lowerBound, sharpBound, smallest}
 
@@ -11,18 +11,18 @@ abbrev four : Network
 four = record {
   nodeCount = 4;
   kinds = added ∷ worst ∷ closing ∷ [];
-  rows = record { firstEnd = 1; secondEnd = 2; street = 1; costs = 1 ∷ 5 ∷ 2 ∷ [] }
-      ∷ record { firstEnd = 1; secondEnd = 3; street = 0; costs = 4 ∷ 1 ∷ 1 ∷ [] }
-      ∷ record { firstEnd = 2; secondEnd = 3; street = 1; costs = 2 ∷ 2 ∷ 2 ∷ [] }
-      ∷ record { firstEnd = 3; secondEnd = 4; street = 2; costs = 3 ∷ 3 ∷ 3 ∷ [] }
-      ∷ record { firstEnd = 2; secondEnd = 4; street = 0; costs = 6 ∷ 1 ∷ 4 ∷ [] }
+  rows = record { firstEnd = 1; secondEnd = 2; street = 1; state = «open»; costs = 1 ∷ 5 ∷ 2 ∷ [] }
+      ∷ record { firstEnd = 1; secondEnd = 3; street = 0; state = «open»; costs = 4 ∷ 1 ∷ 1 ∷ [] }
+      ∷ record { firstEnd = 2; secondEnd = 3; street = 1; state = «open»; costs = 2 ∷ 2 ∷ 2 ∷ [] }
+      ∷ record { firstEnd = 3; secondEnd = 4; street = 2; state = «open»; costs = 3 ∷ 3 ∷ 3 ∷ [] }
+      ∷ record { firstEnd = 2; secondEnd = 4; street = 0; state = «open»; costs = 6 ∷ 1 ∷ 4 ∷ [] }
       ∷ [];
 }
 
 Computed : Type 0
 Computed =
-    (behindPrefix (graphOf four) (0 ∷ 1 ∷ []) ≡ (0 ∷ 2 ∷ 4 ∷ []) ∷ (0 ∷ 2 ∷ 3 ∷ []) ∷ (0 ∷ 4 ∷ 3 ∷ []) ∷ (1 ∷ 2 ∷ 3 ∷ []) ∷ (1 ∷ 2 ∷ 4 ∷ []) ∷ (1 ∷ 3 ∷ 4 ∷ []) ∷ []) ×
-    (behindPrefix (graphOf four) (0 ∷ []) ≡ (1 ∷ 2 ∷ 3 ∷ []) ∷ (1 ∷ 2 ∷ 4 ∷ []) ∷ (1 ∷ 3 ∷ 4 ∷ []) ∷ []) ×
+    (behindPrefix (trees (graphOf four)) (0 ∷ 1 ∷ []) ≡ (0 ∷ 2 ∷ 4 ∷ []) ∷ (0 ∷ 2 ∷ 3 ∷ []) ∷ (0 ∷ 4 ∷ 3 ∷ []) ∷ (1 ∷ 2 ∷ 3 ∷ []) ∷ (1 ∷ 2 ∷ 4 ∷ []) ∷ (1 ∷ 3 ∷ 4 ∷ []) ∷ []) ×
+    (behindPrefix (trees (graphOf four)) (0 ∷ []) ≡ (1 ∷ 2 ∷ 3 ∷ []) ∷ (1 ∷ 2 ∷ 4 ∷ []) ∷ (1 ∷ 3 ∷ 4 ∷ []) ∷ []) ×
     (lowerBound four [] ≡ 6 ∷ 1 ∷ 6 ∷ []) ×
     (lowerBound four (0 ∷ 2 ∷ []) ≡ 6 ∷ 5 ∷ 7 ∷ []) ×
     (lowerBound four (1 ∷ []) ≡ 8 ∷ 1 ∷ 6 ∷ []) ×

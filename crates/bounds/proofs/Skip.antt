@@ -12,29 +12,30 @@ use Rattle.lists.specs.Lists.{filterB}
 use Rattle.lists.proofs.Members.{_∈_, any-in, filter-out, mem-elim}
 use Rattle.lists.proofs.Tests.{pick-elim}
 use Rattle.graph.specs.Graph.{Graph}
-use Rattle.graph.specs.Paths.{isMinimal, trees}
-use Rattle.graph.proofs.Minimal.{WellFormed}
+use Rattle.graph.specs.Paths.{trees}
+use Rattle.graph.proofs.Parts.{Part}
 use Rattle.costs.specs.Costs.{costOf, dominates, noneLarger}
+use Rattle.costs.specs.Layouts.{layouts}
 use Rattle.costs.specs.Network.{Kind, Network, graphOf}
 use Rattle.costs.proofs.Fronts.{Sized}
+use Rattle.costs.proofs.Layouts.{layouts-part}
 use Rattle.costs.proofs.Networks.{vectors-sized}
 use Rattle.costs.proofs.Vectors.{dominates-less, noneLarger-cases, noneLarger-trans, vector-order}
 use Rattle.tables.specs.Tables.{Table, below, enterBounded, walk}
 use Rattle.tables.proofs.Pass.{skip-one}
 use Rattle.tables.proofs.Witness.{Walked, walked-walk}
 use Rattle.bounds.specs.Bounds.{beforePrefix, begins, behindPrefix, boundWith, boundsFrom, branch, leastAt, lowerBound, sharpBound}
-use Rattle.bounds.proofs.After.{AfterPath, LastAfter, after-first, after-none}
 use Rattle.bounds.proofs.Growing.{costs-grow}
 use Rattle.bounds.proofs.Lower.{lower-bound}
-use Rattle.bounds.proofs.Prefix.{begins-take, from-branch, prefix-parts}
+use Rattle.bounds.proofs.Prefix.{AfterIn, NoneAfterIn, after-in, begins-take, from-branch, none-after-in, prefix-parts}
 use Rattle.bounds.proofs.Sharp.{sharp-bound}
 
--- all trees up to the end of the branch
-abbrev pub throughPrefix : Graph → List ℕ → List (List ℕ)
-throughPrefix g prefix = beforePrefix g prefix ++ branch g prefix
+-- all trees of a list up to the end of the branch
+abbrev pub throughPrefix : List (List ℕ) → List ℕ → List (List ℕ)
+throughPrefix L prefix = beforePrefix L prefix ++ branch L prefix
 
-pub through-behind : (g : Graph) (prefix : List ℕ) → throughPrefix g prefix ++ behindPrefix g prefix ≡ trees g
-through-behind g prefix = append-assoc (beforePrefix g prefix) (branch g prefix) (behindPrefix g prefix) ∙ prefix-parts g prefix
+pub through-behind : {g : Graph} {L : List (List ℕ)} → Part g L → (prefix : List ℕ) → throughPrefix L prefix ++ behindPrefix L prefix ≡ L
+through-behind {g} {L} part prefix = append-assoc (beforePrefix L prefix) (branch L prefix) (behindPrefix L prefix) ∙ prefix-parts part prefix
 
 -- bounds have a part for each criterion
 bounds-length : (w : Network) (least : ℕ → ℕ → ℕ) (vs rs : List ℕ) (c : ℕ) (kinds : List Kind) → length (boundsFrom w least vs rs c kinds) ≡ length kinds
@@ -54,11 +55,11 @@ pub data At (done early : List (List ℕ)) (P : List ℕ) : Type 0 where
   behind-it : done ≡ early ++ (P ∷ []) → At done early P
 
 -- From a tree P of the branch on, to the end of the branch
-through-is : (g : Graph) (prefix : List ℕ) (early rest : List (List ℕ)) (P : List ℕ) → early ++ P ∷ rest ≡ trees g → T (begins prefix P)
-    → early ++ P ∷ filterB (begins prefix) rest ≡ throughPrefix g prefix
-through-is g prefix early rest P e t = append-cancel-right (early ++ P ∷ filterB (begins prefix) rest) (throughPrefix g prefix) (behindPrefix g prefix) (
-    append-assoc early (P ∷ filterB (begins prefix) rest) (behindPrefix g prefix)
-    ∙ ap (λ (l : List (List ℕ)). early ++ P ∷ l) (sym (from-branch g prefix early rest P e t)) ∙ e ∙ sym (through-behind g prefix)
+through-is : {g : Graph} {L : List (List ℕ)} → Part g L → (prefix : List ℕ) (early rest : List (List ℕ)) (P : List ℕ) → early ++ P ∷ rest ≡ L → T (begins prefix P)
+    → early ++ P ∷ filterB (begins prefix) rest ≡ throughPrefix L prefix
+through-is {g} {L} part prefix early rest P e t = append-cancel-right (early ++ P ∷ filterB (begins prefix) rest) (throughPrefix L prefix) (behindPrefix L prefix) (
+    append-assoc early (P ∷ filterB (begins prefix) rest) (behindPrefix L prefix)
+    ∙ ap (λ (l : List (List ℕ)). early ++ P ∷ l) (sym (from-branch part prefix early rest P e t)) ∙ e ∙ sym (through-behind part prefix)
     )
 
 -- a vector that is not larger is below a bound if the other is
@@ -90,81 +91,77 @@ module _ (w : Network) (prefix : List ℕ) where
 module _ (w : Network) (cap : ℕ) (known : List (List ℕ)) (sized : Sized (length (w .kinds)) known) where
   -- the pass over the network's trees has done these
   abbrev pub Done : List (List ℕ) → Table (List ℕ) → Type 0
-  Done done s = Walked (costOf w) cap known (trees (graphOf w)) done s
+  Done done s = Walked (costOf w) cap known (layouts w) done s
 
   walk-still : (s : Table (List ℕ)) (us : List (List ℕ)) → ((u : List ℕ) → u ∈ us → enterBounded (costOf w) cap s u ≡ s) → walk (costOf w) cap s us ≡ s
   walk-still s [] h = refl
   walk-still s (u ∷ us) h = ap (λ (t : Table (List ℕ)). walk (costOf w) cap t us) (h u (here refl)) ∙ walk-still s us (λ v m. h v (there m))
 
   -- SKIP a branch of which no tree changes the table
-  pub skip-still : (early rest done : List (List ℕ)) (P prefix : List ℕ) (s : Table (List ℕ)) → early ++ P ∷ rest ≡ trees (graphOf w) → At done early P
-      → T (begins prefix P) → ((u : List ℕ) → u ∈ trees (graphOf w) → T (begins prefix u) → enterBounded (costOf w) cap s u ≡ s)
-      → Done done s → Done (throughPrefix (graphOf w) prefix) s
+  pub skip-still : (early rest done : List (List ℕ)) (P prefix : List ℕ) (s : Table (List ℕ)) → early ++ P ∷ rest ≡ layouts w → At done early P
+      → T (begins prefix P) → ((u : List ℕ) → u ∈ layouts w → T (begins prefix u) → enterBounded (costOf w) cap s u ≡ s)
+      → Done done s → Done (throughPrefix (layouts w) prefix) s
   skip-still early rest done P prefix s e at t still p = go at
     where
-      g : Graph
-      g = graphOf w
-
       us : List (List ℕ)
       us = filterB (begins prefix) rest
 
-      tree : (v : List ℕ) → v ∈ P ∷ rest → v ∈ trees g
+      tree : (v : List ℕ) → v ∈ P ∷ rest → v ∈ layouts w
       tree v i = rw e at (append-right early i)
 
       from-P : (u : List ℕ) → u ∈ P ∷ us → enterBounded (costOf w) cap s u ≡ s
       from-P u i = mem-elim (λ (v : List ℕ). enterBounded (costOf w) cap s v ≡ s) i (still P (tree P (here refl)) t)
           (λ j. let (k, b) = filter-out (begins prefix) rest j in still u (tree u (there k)) b)
 
-      skipped : (done us : List (List ℕ)) → done ++ us ≡ throughPrefix g prefix → ((u : List ℕ) → u ∈ us → enterBounded (costOf w) cap s u ≡ s)
-          → Done done s → Done (throughPrefix g prefix) s
+      skipped : (done us : List (List ℕ)) → done ++ us ≡ throughPrefix (layouts w) prefix → ((u : List ℕ) → u ∈ us → enterBounded (costOf w) cap s u ≡ s)
+          → Done done s → Done (throughPrefix (layouts w) prefix) s
       skipped done us q f p = subst (λ (d : List (List ℕ)). Done d s) q (subst (Done (done ++ us)) (walk-still s us f)
-          (walked-walk (costOf w) (length (w .kinds)) cap known sized (trees g) done us (behindPrefix g prefix) s
-          (ap (λ (l : List (List ℕ)). l ++ behindPrefix g prefix) q ∙ through-behind g prefix) (vectors-sized w done) (vectors-sized w us) p))
+          (walked-walk (costOf w) (length (w .kinds)) cap known sized (layouts w) done us (behindPrefix (layouts w) prefix) s
+          (ap (λ (l : List (List ℕ)). l ++ behindPrefix (layouts w) prefix) q ∙ through-behind (layouts-part w) prefix) (vectors-sized w done) (vectors-sized w us) p))
 
-      go : At done early P → Done (throughPrefix g prefix) s
-      go (before-it q) = skipped early (P ∷ us) (through-is g prefix early rest P e t) from-P (rw q at p)
-      go (behind-it q) = skipped (early ++ (P ∷ [])) us (append-snoc early P us ∙ through-is g prefix early rest P e t) (λ u i. from-P u (there i)) (rw q at p)
+      go : At done early P → Done (throughPrefix (layouts w) prefix) s
+      go (before-it q) = skipped early (P ∷ us) (through-is (layouts-part w) prefix early rest P e t) from-P (rw q at p)
+      go (behind-it q) = skipped (early ++ (P ∷ [])) us (append-snoc early P us ∙ through-is (layouts-part w) prefix early rest P e t) (λ u i. from-P u (there i)) (rw q at p)
 
-  module _ (early rest done : List (List ℕ)) (P : List ℕ) (s : Table (List ℕ)) (e : early ++ P ∷ rest ≡ trees (graphOf w)) (at : At done early P) where
+  module _ (early rest done : List (List ℕ)) (P : List ℕ) (s : Table (List ℕ)) (e : early ++ P ∷ rest ≡ layouts w) (at : At done early P) where
     -- by a row that is not larger than a vector under the branch
     pub skip-bound : (prefix row l : List ℕ) → T (begins prefix P) → Under w prefix l → row ∈ s .rows → T (noneLarger (costOf w row) l)
-        → Done done s → Done (throughPrefix (graphOf w) prefix) s
+        → Done done s → Done (throughPrefix (layouts w) prefix) s
     skip-bound prefix row l t h m k = skip-still early rest done P prefix s e at t (λ u i b. skip-one (costOf w) cap s u
         (any-in (λ r. noneLarger (costOf w r) (costOf w u)) m
-        (noneLarger-trans (costOf w row) l (costOf w u) (cost-length w row ∙ sym (h .long)) k (h .below-all u i b))))
+        (noneLarger-trans (costOf w row) l (costOf w u) (cost-length w row ∙ sym (h .long)) k (h .below-all u (layouts-part w .listed u i) b))))
 
     -- by the table's bound, if such a vector is not below it: the branch is left to a later pass
-    pub skip-over : (prefix l : List ℕ) → T (begins prefix P) → Under w prefix l → ¬ T (below (s .bound) l) → Done done s → Done (throughPrefix (graphOf w) prefix) s
+    pub skip-over : (prefix l : List ℕ) → T (begins prefix P) → Under w prefix l → ¬ T (below (s .bound) l) → Done done s → Done (throughPrefix (layouts w) prefix) s
     skip-over prefix l t h n = skip-still early rest done P prefix s e at t (λ u i b. over-still u
-        (λ k. n (below-down (s .bound) l (costOf w u) (h .long ∙ sym (cost-length w u)) (h .below-all u i b) k)))
+        (λ k. n (below-down (s .bound) l (costOf w u) (h .long ∙ sym (cost-length w u)) (h .below-all u (layouts-part w .listed u i) b) k)))
       where
         over-still : (u : List ℕ) → ¬ T (below (s .bound) (costOf w u)) → enterBounded (costOf w) cap s u ≡ s
         over-still u n = pick-elim (λ (r : Table (List ℕ)). r ≡ s) (below (s .bound) (costOf w u)) (λ k. absurd (n k)) (λ k. refl)
 
     -- SKIP-PREFIX: the branch of the first len rows of P, before or after P is entered
     pub skip-prefix : (len : ℕ) (row : List ℕ) → row ∈ s .rows → T (noneLarger (costOf w row) (lowerBound w (take len P)))
-        → Done done s → Done (throughPrefix (graphOf w) (take len P)) s
+        → Done done s → Done (throughPrefix (layouts w) (take len P)) s
     skip-prefix len row = skip-bound (take len P) row (lowerBound w (take len P)) (begins-take len P) (under-lower w (take len P))
 
     -- the same by the sharper bound
     pub skip-sharp : (len : ℕ) (row : List ℕ) → row ∈ s .rows → T (noneLarger (costOf w row) (sharpBound w (take len P)))
-        → Done done s → Done (throughPrefix (graphOf w) (take len P)) s
+        → Done done s → Done (throughPrefix (layouts w) (take len P)) s
     skip-sharp len row = skip-bound (take len P) row (sharpBound w (take len P)) (begins-take len P) (under-sharp w (take len P))
 
--- Going on behind the branch
+-- Going on behind the branch, in any part of the list
 
--- Q = after(P, len) stands next
-pub skip-next : (g : Graph) (wf : WellFormed g) (len : ℕ) (P Q : List ℕ) → T (isMinimal g P) → AfterPath g (take len P) P Q
-    → (rest : List (List ℕ)) × (throughPrefix g (take len P) ++ Q ∷ rest ≡ trees g)
-skip-next g wf len P Q t a = go (behindPrefix g (take len P)) (after-first g wf (take len P) P Q t (begins-take len P) a) (through-behind g (take len P))
-  where
-    go : (l : List (List ℕ)) → getElem? l 0 ≡ some Q → throughPrefix g (take len P) ++ l ≡ trees g
-        → (rest : List (List ℕ)) × (throughPrefix g (take len P) ++ Q ∷ rest ≡ trees g)
-    go [] e f = absurd (Option·none-ne-some Q e)
-    go (q ∷ l) e f = (l, subst (λ (x : List ℕ). throughPrefix g (take len P) ++ x ∷ l ≡ trees g) (Option·some-injective q Q e) f)
+module _ {g : Graph} {L : List (List ℕ)} (part : Part g L) (len : ℕ) (P : List ℕ) (i : P ∈ L) where
+  -- Q = after(P, len) stands next
+  pub skip-next : (Q : List ℕ) → AfterIn g L (take len P) P Q → (rest : List (List ℕ)) × (throughPrefix L (take len P) ++ Q ∷ rest ≡ L)
+  skip-next Q a = go (behindPrefix L (take len P)) (after-in part (take len P) P i (begins-take len P) Q a) (through-behind part (take len P))
+    where
+      go : (l : List (List ℕ)) → getElem? l 0 ≡ some Q → throughPrefix L (take len P) ++ l ≡ L → (rest : List (List ℕ)) × (throughPrefix L (take len P) ++ Q ∷ rest ≡ L)
+      go [] e f = absurd (Option·none-ne-some Q e)
+      go (q ∷ l) e f = (l, subst (λ (x : List ℕ). throughPrefix L (take len P) ++ x ∷ l ≡ L) (Option·some-injective q Q e) f)
 
--- or nothing does, and the pass is at its end
-pub skip-end : (g : Graph) (wf : WellFormed g) (len : ℕ) (P : List ℕ) → T (isMinimal g P) → LastAfter g (take len P) P → throughPrefix g (take len P) ≡ trees g
-skip-end g wf len P t n =
-    sym (append-nil (throughPrefix g (take len P))) ∙ ap (λ (l : List (List ℕ)). throughPrefix g (take len P) ++ l) (sym (after-none g wf (take len P) P t (begins-take len P) n))
-    ∙ through-behind g (take len P)
+  -- or nothing does, and the pass is at its end
+  pub skip-end : NoneAfterIn g L (take len P) P → throughPrefix L (take len P) ≡ L
+  skip-end n =
+      sym (append-nil (throughPrefix L (take len P))) ∙ ap (λ (l : List (List ℕ)). throughPrefix L (take len P) ++ l) (sym (none-after-in part (take len P) P i (begins-take len P) n))
+      ∙ through-behind part (take len P)

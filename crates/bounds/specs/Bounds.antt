@@ -7,7 +7,7 @@ use Prim.Native.Nat.{_+_, max, min, suc, ℕ}
 use lib.Dec.{eqb}
 use Rattle.lists.specs.Lists.{both, either, filterB, largest, member, pick, sum}
 use Rattle.graph.specs.Graph.{Graph, firstEnd, rowNumbers, secondEnd}
-use Rattle.graph.specs.Paths.{Key, follows, placeOf, steps, trees}
+use Rattle.graph.specs.Paths.{Key, follows, placeOf, steps}
 use Rattle.costs.specs.Costs.{addedCost, closingCost, costAt, worstCost}
 use Rattle.costs.specs.Network.{Kind, Network, added, closing, graphOf, worst}
 
@@ -34,15 +34,15 @@ begins [] q = true
 begins (x ∷ p) [] = false
 begins (x ∷ p) (y ∷ q) = both (eqb x y) (begins p q)
 
--- the trees before the first that begins with the prefix, those that do, and what is left behind them
-abbrev pub beforePrefix : Graph → List ℕ → List (List ℕ)
-beforePrefix g prefix = takeUntil (begins prefix) (trees g)
+-- of a list of trees: those before the first that begins with the prefix, those that do, and what is left behind them
+abbrev pub beforePrefix : List (List ℕ) → List ℕ → List (List ℕ)
+beforePrefix L prefix = takeUntil (begins prefix) L
 
-abbrev pub branch : Graph → List ℕ → List (List ℕ)
-branch g prefix = filterB (begins prefix) (trees g)
+abbrev pub branch : List (List ℕ) → List ℕ → List (List ℕ)
+branch L prefix = filterB (begins prefix) L
 
-abbrev pub behindPrefix : Graph → List ℕ → List (List ℕ)
-behindPrefix g prefix = dropWhile (begins prefix) (dropUntil (begins prefix) (trees g))
+abbrev pub behindPrefix : List (List ℕ) → List ℕ → List (List ℕ)
+behindPrefix L prefix = dropWhile (begins prefix) (dropUntil (begins prefix) L)
 
 -- The nodes that a prefix has entered
 

@@ -5,8 +5,8 @@ use Prim.Native.Nat.{_+_, suc, ℕ}
 use lib.Dec.{eqb, leb, ltb}
 use lib.ListN.{getD}
 use Rattle.lists.specs.Lists.{any, filterB, largest, member, same, sort, sum}
-use Rattle.graph.specs.Paths.{trees}
-use Rattle.costs.specs.Network.{Kind, Network, added, closing, graphOf, rowAt, worst}
+use Rattle.costs.specs.Network.{Kind, Network, added, closing, rowAt, worst}
+use Rattle.costs.specs.Layouts.{layouts}
 
 -- cost of row r in criterion c
 abbrev pub costAt : Network → ℕ → ℕ → ℕ
@@ -81,7 +81,7 @@ once [] = []
 once (v ∷ vs) = let rest = once vs in cond (any (same v) rest) rest (v ∷ rest)
 
 abbrev pub vectors : Network → List (List ℕ)
-vectors g = map (costOf g) (trees (graphOf g))
+vectors g = map (costOf g) (layouts g)
 
 unfoldable pub frontOf : List (List ℕ) → List (List ℕ)
 frontOf vs = sort vectorLess (once (filterB (λ v. not (any (λ w. dominates w v) vs)) vs))

@@ -6,10 +6,17 @@ use lib.ListN.{getD}
 use Rattle.lists.specs.Lists.{range}
 use Rattle.graph.specs.Graph.{Graph}
 
+-- whether a row may be dug, must be, or may not
+pub data State : Type 0 where
+  «open» : State
+  must : State
+  barred : State
+
 pub record Row : Type 0 where
   pub firstEnd : ℕ
   pub secondEnd : ℕ
   pub street : ℕ
+  pub state : State
   pub costs : List ℕ
 
 -- how a criterion's cost of a tree comes from the costs of its rows
@@ -24,7 +31,7 @@ pub record Network : Type 0 where
   pub rows : List Row
 
 abbrev pub noRow : Row
-noRow = record { firstEnd = 0; secondEnd = 0; street = 0; costs = [] }
+noRow = record { firstEnd = 0; secondEnd = 0; street = 0; state = «open»; costs = [] }
 
 abbrev pub rowAt : Network → ℕ → Row
 rowAt w r = getD (w .rows) r noRow

@@ -1,9 +1,9 @@
--- What `drawn` comes to by Open's answer (`open-stops`, `tried-drawn`), and what its callers learn from its number: the first check that
+-- What `drawn` comes to by Open's answer (`open-stops`, `tried-drawn`), then by the states (`tree-stops`, `states-broken`, `states-kept`), and what its callers learn from its number: the first check that
 -- is not met (`refused-by`), or that all are met and the path is the tree's (`answered-by`); and a call's end with check 11 behind (`call-refused`,
 -- `call-short`, `call-met`).
 use mathlib.Core.Path.{_∙_, _≡_, ap, refl, subst, sym}
 use mathlib.Core.Bool.{Bool, false, true}
-use mathlib.Core.Option.{Option, none, some}
+use mathlib.Core.Option.{none, some}
 use mathlib.Core.List.{List, [], _++_, _∷_, map, List·Memᴰ·head as here, List·Memᴰ·tail as there, Memᴰ·append-right as append-right}
 use Prim.Native.Nat.{_-_, _≤_, pred, ℕ}
 use native.Mathlib.Omega.{arith}
@@ -17,15 +17,17 @@ use Rattle.graph.specs.Graph.{isTree, width}
 use Rattle.graph.specs.Paths.{Key, pathOf}
 use Rattle.graph.proofs.Minimal.{minimal-parts}
 use Rattle.graph.proofs.PathOf.{pathOf-tree}
-use Rattle.checks.specs.Checks.{Check, Ended, answered, checked, ended, firstUnmet, outcomeBy, refused}
+use Rattle.checks.specs.Checks.{Check, Ended, Outcome, answered, checked, ended, firstUnmet, refused}
 use Rattle.checks.proofs.Checks.{firstUnmet-append, firstUnmet-met, firstUnmet-unmet, met-all, stops-iff}
-use Rattle.checks.proofs.Ended.{checked-answered, checked-refused, checked-unmet, ended-met, ended-unmet, firstUnmet-stops, unmet-parts}
+use Rattle.checks.proofs.Ended.{checked-answered, checked-met, checked-refused, checked-unmet, ended-met, ended-unmet, firstUnmet-stops, unmet-parts}
+use Rattle.costs.specs.Layouts.{keepsStates}
 use Rattle.network_file.specs.File.{Sizes, fileChecks, networkOf, openOf, sizesOf}
 use Rattle.network_file.proofs.Accepted.{Accepted, accepted}
 use Rattle.network_file.proofs.Opened.{open-answered, open-refused}
-use Rattle.operations.specs.Operations.{check, drawnChecks, graphIn, pathIn}
+use Rattle.operations.specs.Operations.{check, drawnChecks, graphIn, pathIn, treeChecks}
 use Rattle.operations.proofs.Files.{formed, node-count}
 use Rattle.ends.specs.Ends.{endsBy, nodesWord}
+use Rattle.ends.specs.declared.Rows.the-variants.{All}
 use Rattle.ends.proofs.Ends.{first-part, nodes-graph, nodes-has, second-part}
 use Rattle.paths.specs.Path.{keysOf}
 use Rattle.drawn.specs.Answers.{drawnCall, drawnOf}
@@ -36,7 +38,11 @@ use Rattle.drawn.proofs.Trees.{Fits, tried-checks}
 -- By Open's answer
 
 abbrev pub drawnTable : List ℕ → List ℕ → List Check
-drawnTable f rows = fileChecks f ++ drawnChecks (graphIn f) rows
+drawnTable f rows = fileChecks f ++ drawnChecks (networkOf f) rows
+
+-- checks 8, 9 and 10 alone
+abbrev pub treeCall : List ℕ → List ℕ → Outcome (List ℕ)
+treeCall f rows = checked (treeChecks (graphIn f) rows) (pathIn (pathOf (graphIn f) rows))
 
 -- Open's refusals are numbered from 1
 numbered : (f : List ℕ) (e : ℕ) → firstUnmet (fileChecks f) ≡ some e → ¬ (e ≡ 0)
@@ -51,7 +57,7 @@ pub open-stops : (f rows : List ℕ) (e : ℕ) → openOf f ≡ refused e → (d
 unfolding drawnCall
 open-stops f rows e h =
     let stop = open-refused f e h in
-    (checked-unmet (drawnTable f rows) _ e (firstUnmet-stops (fileChecks f) (drawnChecks (graphIn f) rows) e stop), numbered f e stop)
+    (checked-unmet (drawnTable f rows) _ e (firstUnmet-stops (fileChecks f) (drawnChecks (networkOf f) rows) e stop), numbered f e stop)
 
 pub file-fits : (f : List ℕ) → Accepted f → Fits (graphIn f) (sizesOf f .n) (nodesWord (sizesOf f .n))
 file-fits f a = record {
@@ -71,16 +77,44 @@ module _ (f : List ℕ) (s : Sizes) (h : openOf f ≡ answered s) where
   opened = let a = accepted f (met .0) in subst (λ (s : Sizes). (2 ≤ s .n) × (s .m ≤ 256)) (met .1) (a .nodes-low, a .rows-high)
 
   -- the code passes what Open answers
-  pub tried-drawn : (rows : List ℕ)
-      → triedOf (take (s .m) (endsBy (λ row. row .firstEnd) f)) (take (s .m) (endsBy (λ row. row .secondEnd) f)) (s .n) 1 (nodesWord (s .n)) (s .n - 1) rows
-      ≡ drawnCall f rows
-  unfolding drawnCall checked
-  tried-drawn rows =
+  pub tried-drawn : (rows firsts seconds : List ℕ) (nodes : ℕ) → firsts ≡ endsBy (λ row. row .firstEnd) f → seconds ≡ endsBy (λ row. row .secondEnd) f
+      → nodes ≡ nodesWord (s .n) → triedOf (take (s .m) firsts) (take (s .m) seconds) (s .n) 1 nodes (s .n - 1) rows ≡ treeCall f rows
+  tried-drawn rows firsts seconds nodes e1 e2 e3 =
       let a = accepted f (met .0) in
       let wide : sizesOf f .n - 1 ≡ pred (length (graphIn f .nodes)) = omega (arith, node-count f) in
-      let behind = firstUnmet-append (fileChecks f) (drawnChecks (graphIn f) rows) (met .0) in
-      rw (← (met .1), first-part f a, second-part f a, wide)
-      (tried-checks (file-fits f a) rows ∙ ap (λ (o : Option ℕ). outcomeBy o (pathIn (pathOf (graphIn f) rows))) (sym behind))
+      rw (e1, e2, e3, ← (met .1), first-part All f a, second-part All f a, wide) (tried-checks (file-fits f a) rows)
+
+  -- and then asks for the states
+  module _ (rows : List ℕ) (d : DrawnAnswer) (asked : drawnOf d ≡ treeCall f rows) where
+    abbrev kept : Bool
+    kept = keepsStates (networkOf f) rows
+
+    behind : firstUnmet (drawnTable f rows) ≡ firstUnmet (drawnChecks (networkOf f) rows)
+    behind = firstUnmet-append (fileChecks f) (drawnChecks (networkOf f) rows) (met .0)
+
+    pub tree-stops : ¬ (d .number ≡ 0) → drawnOf d ≡ drawnCall f rows
+    unfolding drawnCall drawnChecks
+    tree-stops n =
+        let e : drawnOf d ≡ refused (d .number) = rw (ne-eqb _ _ n) in
+        let stop = checked-refused (treeChecks (graphIn f) rows) _ (d .number) (sym asked ∙ e) in
+        e ∙ sym (checked-unmet (drawnTable f rows) _ (d .number) (behind ∙ firstUnmet-stops (treeChecks (graphIn f) rows) (check 15 kept ∷ []) (d .number) stop))
+
+    module _ (z : d .number ≡ 0) where
+      fifteen : firstUnmet (drawnTable f rows) ≡ firstUnmet (check 15 kept ∷ [])
+      unfolding drawnChecks
+      fifteen =
+          let (tree, _) = checked-answered (treeChecks (graphIn f) rows) _ (map (λ (k : Key). k .row) (keysOf (d .path))) (sym asked ∙ (rw (eq-eqb _ _ z))) in
+          behind ∙ firstUnmet-append (treeChecks (graphIn f) rows) (check 15 kept ∷ []) tree
+
+      pub states-broken : kept ≡ false → drawnCall f rows ≡ refused 15
+      unfolding drawnCall
+      states-broken e = checked-unmet (drawnTable f rows) _ 15 (fifteen ∙ firstUnmet-unmet (check 15 kept) [] e)
+
+      pub states-kept : kept ≡ true → drawnOf d ≡ drawnCall f rows
+      unfolding drawnCall firstUnmet
+      states-kept e =
+          let (tree, _) = checked-answered (treeChecks (graphIn f) rows) _ (map (λ (k : Key). k .row) (keysOf (d .path))) (sym asked ∙ (rw (eq-eqb _ _ z))) in
+          asked ∙ checked-met (treeChecks (graphIn f) rows) _ tree ∙ sym (checked-met (drawnTable f rows) _ (fifteen ∙ firstUnmet-met (check 15 kept) [] e))
 
 -- By the code's answer
 
@@ -90,16 +124,17 @@ pub record Passed (f rows ps : List ℕ) : Type 0 where
   pub file : Accepted f
   pub size : length rows ≡ width (graphIn f)
   pub tree : T (isTree (graphIn f) rows)
+  pub states : T (keepsStates (networkOf f) rows)
   pub path : pathOf (graphIn f) rows ≡ some ps
   pub long : length ps ≡ width (graphIn f)
 
 module _ (f rows : List ℕ) where
   passed : (ps : List ℕ) → drawnCall f rows ≡ answered ps → Passed f rows ps
-  unfolding drawnCall drawnChecks
+  unfolding drawnCall drawnChecks treeChecks
   passed ps h =
       let (met, same) = checked-answered (drawnTable f rows) _ ps h in
-      let (of-file, behind) = unmet-parts (fileChecks f) (drawnChecks (graphIn f) rows) met in
-      let each = met-all (drawnChecks (graphIn f) rows) .0 behind in
+      let (of-file, behind) = unmet-parts (fileChecks f) (drawnChecks (networkOf f) rows) met in
+      let each = met-all (drawnChecks (networkOf f) rows) .0 behind in
       let file = accepted f of-file in
       let tree = T-true (isTree (graphIn f) rows) .1 (each (check 10 (isTree (graphIn f) rows)) (there (there (here refl)))) in
       let (qs, found, minimal, _, _) = pathOf-tree (graphIn f) (formed f file) rows tree in
@@ -110,6 +145,7 @@ module _ (f rows : List ℕ) where
         file = file;
         size = eqb-true _ _ (each (check 8 (eqb (length rows) (width (graphIn f)))) (here refl));
         tree = tree;
+        states = T-true (keepsStates (networkOf f) rows) .1 (each (check 15 (keepsStates (networkOf f) rows)) (there (there (there (here refl)))));
         path = found ∙ ap some e;
         long = sym (ap length e) ∙ count;
       }

@@ -11,7 +11,7 @@ use lib.Dec.{ltb}
 use lib.ListN.{drop, drop-of-length-le, getD, length, length-set, length-take, set, take}
 use lib.Seq.{drop-cons, ext-getD, getD-set-other, getD-set-same, getD-take, take-suc}
 use borrow.Author.Tests.{eq-eqb, ne-eqb}
-use Rattle.lists.specs.Lists.{all, any, both, member, pick, range}
+use Rattle.lists.specs.Lists.{all, any, both, either, member, pick, range}
 use Rattle.lists.proofs.Members.{member-in, member-out, snoc-new, snoc-old, snoc-out}
 use Rattle.lists.proofs.Tests.{T-same, pick-true}
 use Rattle.graph.specs.Paths.{Key}
@@ -38,6 +38,22 @@ module _ (p : ℕ → Bool) (l : List ℕ) (i : ℕ) where
   pub all-end : length l ≤ i → all p (drop i l) ≡ true
   unfolding all
   all-end h = rw (drop-of-length-le l h)
+
+-- and whether one of them passes
+module _ (p : ℕ → Bool) (l : List ℕ) (i : ℕ) where
+  any-turn : i < length l → any p (drop i l) ≡ either (p (getD l i 0)) (any p (drop (i + 1) l))
+  unfolding any
+  any-turn h = rw (drop-cons l i 0 h, add-one)
+
+  pub any-next : i < length l → p (getD l i 0) ≡ false → any p (drop i l) ≡ any p (drop (i + 1) l)
+  any-next h e = any-turn h ∙ (rw e)
+
+  pub any-stop : i < length l → p (getD l i 0) ≡ true → any p (drop i l) ≡ true
+  any-stop h e = any-turn h ∙ (rw e)
+
+  pub any-end : length l ≤ i → any p (drop i l) ≡ false
+  unfolding any
+  any-end h = rw (drop-of-length-le l h)
 
 -- the ends of no row, and of one row more
 

@@ -1,4 +1,5 @@
 pub mod Answers
 pub mod Laws
 pub mod Only
+pub mod States
 pub mod Trees

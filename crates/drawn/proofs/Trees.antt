@@ -23,7 +23,7 @@ use Rattle.words.specs.Words.{has}
 use Rattle.spread.proofs.Spreads.{neighbours-charted}
 use Rattle.grow.specs.Grow.{freshAfter}
 use Rattle.grow.proofs.Grow.{Grown, fresh-ready, grow-steps}
-use Rattle.operations.specs.Operations.{check, drawnChecks, pathIn}
+use Rattle.operations.specs.Operations.{check, pathIn, treeChecks}
 use Rattle.drawn.specs.Only.{only, onlyEnds}
 use Rattle.drawn.specs.Tried.{drawnKeys, grownFrom, triedOf}
 use Rattle.drawn.proofs.Only.{only-formed, only-leasts, only-legal, only-length, short-no-tree, whole-path}
@@ -92,8 +92,8 @@ module _ (b8 b9 : Bool) {b10 c10 : Bool} {a b : List ℕ} where
       by false b9 h = refl
 
 pub tried-checks : {g : Graph} {limit nodes : ℕ} → Fits g limit nodes → (rows : List ℕ)
-    → triedOf (g .firstEnds) (g .secondEnds) limit (g .plant) nodes (width g) rows ≡ checked (drawnChecks g rows) (pathIn (pathOf g rows))
-unfolding triedOf drawnChecks
+    → triedOf (g .firstEnds) (g .secondEnds) limit (g .plant) nodes (width g) rows ≡ checked (treeChecks g rows) (pathIn (pathOf g rows))
+unfolding triedOf treeChecks
 tried-checks {g} {limit} {nodes} fits rows =
     agree (eqb (length rows) (width g)) (all (λ r. ltb r (length (g .firstEnds))) rows)
     (λ t8 t9.

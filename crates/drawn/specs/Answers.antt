@@ -1,17 +1,17 @@
--- What checking drawn rows comes to: Open's checks, then 8, 9 and 10; the answer is the minimal path with exactly those rows.
+-- What checking drawn rows comes to: Open's checks, then 8, 9, 10 and 15; the answer is the minimal path with exactly those rows.
 use mathlib.Core.List.{List, _++_, map}
 use Prim.Native.Nat.{ℕ}
 use lib.Dec.{eqb}
 use Rattle.lists.specs.Lists.{pick}
 use Rattle.graph.specs.Paths.{Key, pathOf}
 use Rattle.checks.specs.Checks.{Outcome, answered, checked, refused}
-use Rattle.network_file.specs.File.{fileChecks}
+use Rattle.network_file.specs.File.{fileChecks, networkOf}
 use Rattle.operations.specs.Operations.{drawnChecks, graphIn, pathIn}
 use Rattle.paths.specs.Path.{keysOf}
 use Rattle.drawn.specs.declared.DrawnAnswer.{DrawnAnswer}
 
 unfoldable pub drawnCall : List ℕ → List ℕ → Outcome (List ℕ)
-drawnCall f rows = checked (fileChecks f ++ drawnChecks (graphIn f) rows) (pathIn (pathOf (graphIn f) rows))
+drawnCall f rows = checked (fileChecks f ++ drawnChecks (networkOf f) rows) (pathIn (pathOf (graphIn f) rows))
 
 -- the code's answer: number 0 stands for a path
 abbrev pub drawnOf : DrawnAnswer → Outcome (List ℕ)

@@ -1,9 +1,10 @@
--- Of an accepted file, the first m places of the arrays of ends are the ends of its graph (`first-part`, `second-part`).
+-- Of an accepted file, the first m places of the arrays are the ends of the rows that they are of (`first-part`, `second-part`): with all rows
+-- those of its graph, without the barred rows those of the open graph.
 -- The members of the word of the nodes (`nodes-has`, `nodes-graph`).
-use mathlib.Core.Path.{_∙_, _≡_, refl, subst, sym}
+use mathlib.Core.Path.{_∙_, _≡_, ap, refl, subst, sym}
 use mathlib.Core.Logic.{_↔_, inl, inr, ⊎-elim}
-use mathlib.Core.List.{List, map}
-use Prim.Native.Nat.{_+_, _<_, _^_, _≤_, suc, zero, ℕ}
+use mathlib.Core.List.{List, [], map}
+use Prim.Native.Nat.{_+_, _<_, _^_, _≤_, min, suc, zero, ℕ}
 use native.Mathlib.Decide.{ℕ-discrete}
 use native.Mathlib.Numerals.{add-one}
 use native.Mathlib.Omega.{arith}
@@ -16,11 +17,15 @@ use Rattle.lists.proofs.Members.{_∈_, range-in, range-out}
 use Rattle.lists.proofs.Ranges.{getD-map-range, range-length}
 use Rattle.lists.proofs.Tests.{T-either}
 use Rattle.costs.specs.Network.{Row, graphOf, noRow, rowAt}
+use Rattle.network.specs.Answers.{rowWith}
+use Rattle.network.specs.declared.Row as code
 use Rattle.network_file.specs.File.{networkOf, sizesOf}
-use Rattle.network_file.proofs.Accepted.{Accepted, rows-length}
+use Rattle.network_file.proofs.Accepted.{Accepted, row-past, rows-length}
 use Rattle.words.specs.Words.{bit, has}
 use Rattle.words.proofs.Words.{bit-in, bit-out, has-or, has-zero, words-below}
-use Rattle.ends.specs.Ends.{endsBy, nodesWord}
+use Rattle.ends.specs.Ends.{endIn, endsBy, nodesWord}
+use Rattle.ends.specs.declared.Rows.{Rows}
+use Rattle.ends.specs.declared.Rows.the-variants.{All, Must, Unbarred}
 
 -- Ends
 
@@ -40,11 +45,44 @@ module _ (side : Row → ℕ) (f : List ℕ) where
       ∙ getD-map-range (λ r. side (rowAt (networkOf f) r)) 256 i 0 (omega (arith, a .rows-high))
       ∙ sym (subst (λ (x : ℕ). getD (map side rows) i x ≡ side (getD rows i noRow)) none (List·getD-map side rows i noRow)))
 
-pub first-part : (f : List ℕ) → Accepted f → take (sizesOf f .m) (endsBy (λ row. row .firstEnd) f) ≡ graphOf (networkOf f) .firstEnds
-first-part f = ends-part (λ row. row .firstEnd) f refl
+-- An end of row r as the code reads it
 
-pub second-part : (f : List ℕ) → Accepted f → take (sizesOf f .m) (endsBy (λ row. row .secondEnd) f) ≡ graphOf (networkOf f) .secondEnds
-second-part f = ends-part (λ row. row .secondEnd) f refl
+abbrev pub firstIn : Rows → List ℕ → ℕ → ℕ
+firstIn rows f r = endIn rows (rowAt (networkOf f) r) (rowAt (networkOf f) r .firstEnd)
+
+abbrev pub secondIn : Rows → List ℕ → ℕ → ℕ
+secondIn rows f r = endIn rows (rowAt (networkOf f) r) (rowAt (networkOf f) r .secondEnd)
+
+-- the costs of a row have no say
+end-state : (rows : Rows) (row : code.Row) (costs : List ℕ) (end : ℕ) → endIn rows (rowWith row []) end ≡ endIn rows (rowWith row costs) end
+end-state All row costs end = refl
+end-state Unbarred row costs end = refl
+end-state Must row costs end = refl
+
+module _ (rows : Rows) (f : List ℕ) (r : ℕ) (row : code.Row) (read : rowWith row (rowAt (networkOf f) r .costs) ≡ rowAt (networkOf f) r) where
+  pub first-read : endIn rows (rowWith row []) (row .first) ≡ firstIn rows f r
+  first-read = end-state rows row (rowAt (networkOf f) r .costs) (row .first) ∙ ap (λ (x : Row). endIn rows x (x .firstEnd)) read
+
+  pub second-read : endIn rows (rowWith row []) (row .second) ≡ secondIn rows f r
+  second-read = end-state rows row (rowAt (networkOf f) r .costs) (row .second) ∙ ap (λ (x : Row). endIn rows x (x .secondEnd)) read
+
+-- a row that the file does not have has the ends 0
+end-none : (rows : Rows) → endIn rows noRow 0 ≡ 0
+end-none All = refl
+end-none Unbarred = refl
+end-none Must = refl
+
+pub ends-past : (rows : Rows) (f : List ℕ) {m r : ℕ} → m ≡ min (sizesOf f .m) 256 → m ≤ r → (i : ℕ) → r ≤ i → i < 256 → (firstIn rows f i ≡ 0) × (secondIn rows f i ≡ 0)
+ends-past rows f e h i k l = let past = row-past f i (omega arith) in (rw past (end-none rows), rw past (end-none rows))
+
+-- Of an accepted file
+
+module _ (rows : Rows) (f : List ℕ) (a : Accepted f) where
+  pub first-part : take (sizesOf f .m) (endsBy (λ row. endIn rows row (row .firstEnd)) f) ≡ map (λ row. endIn rows row (row .firstEnd)) (networkOf f .rows)
+  first-part = ends-part (λ row. endIn rows row (row .firstEnd)) f (end-none rows) a
+
+  pub second-part : take (sizesOf f .m) (endsBy (λ row. endIn rows row (row .secondEnd)) f) ≡ map (λ row. endIn rows row (row .secondEnd)) (networkOf f .rows)
+  second-part = ends-part (λ row. endIn rows row (row .secondEnd)) f (end-none rows) a
 
 -- Nodes
 

@@ -1,15 +1,15 @@
--- All starred trials are right (`trials-right`): antt computes each.
+-- All trials of the table are right (`trials-right`): antt computes each.
 use mathlib.Core.Path.{refl}
-use Rattle.lists.specs.Lists.{filterB, first, insert, largest, member, same, sequences, sort, sum}
+use Rattle.lists.specs.Lists.{all, filterB, first, insert, largest, member, range, same, sequences, sort, sum}
 use Rattle.graph.specs.Graph.{isTree}
 use Rattle.graph.specs.Paths.{ascending, isMinimal, keysLess, placeOf, stepOf, stepsFrom, trees}
 use Rattle.checks.specs.Checks.{checked, ended, firstUnmet}
 use Rattle.costs.specs.Costs.{costOf, frontOf, noneLarger, once, someSmaller, vectorLess}
 use Rattle.network_file.specs.File.{fileChecks, networkOf, openOf}
-use Rattle.operations.specs.Operations.{drawnChecks, orderCall, orderChecks, pageCall, pageChecks, startChecks}
+use Rattle.operations.specs.Operations.{drawnChecks, orderCall, orderChecks, pageCall, pageChecks, reachCall, reachedNodes, startChecks, treeChecks, wordOf}
 use Rattle.pages.specs.Pages.{behind, flat}
 use Rattle.examples.specs.Trials.{AllRight, table}
 
 pub trials-right : AllRight table
-unfolding filterB first insert sort sequences same member sum largest placeOf stepOf stepsFrom ascending keysLess isMinimal isTree trees costOf noneLarger someSmaller vectorLess once frontOf behind flat firstUnmet checked ended networkOf fileChecks openOf drawnChecks startChecks orderChecks orderCall pageChecks pageCall
-trials-right = (refl, (refl, (refl, (refl, (refl, (refl, (refl, (refl, (refl, (refl, (refl, (refl, (refl, (refl, (refl, (refl, tt))))))))))))))))
+unfolding all range filterB first insert sort sequences same member sum largest placeOf stepOf stepsFrom ascending keysLess isMinimal isTree trees costOf noneLarger someSmaller vectorLess once frontOf behind flat firstUnmet checked ended networkOf fileChecks openOf reachedNodes wordOf reachCall treeChecks drawnChecks startChecks orderChecks orderCall pageChecks pageCall
+trials-right = (refl, (refl, (refl, (refl, (refl, (refl, (refl, (refl, (refl, (refl, (refl, (refl, (refl, (refl, (refl, (refl, (refl, (refl, (refl, (refl, (refl, (refl, (refl, (refl, (refl, (refl, (refl, (refl, (refl, (refl, (refl, (refl, tt))))))))))))))))))))))))))))))))

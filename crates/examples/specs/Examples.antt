@@ -7,13 +7,16 @@ use Prim.Native.Nat.{ℕ}
 use Rattle.graph.specs.Graph.{isTree}
 use Rattle.graph.specs.Paths.{pathOf, trees}
 use Rattle.costs.specs.Costs.{front, frontOf}
-use Rattle.costs.specs.Network.{Network, added, graphOf, worst}
+use Rattle.costs.specs.Layouts.{layouts}
+use Rattle.costs.specs.Network.{Network, added, barred, graphOf, must, «open», worst}
 use Rattle.pages.specs.Pages.{Outcome, run}
 use Rattle.tables.specs.Tables.{Found, Plan, Table, pass, placed, plan}
 
 pub data Example : Type 0 where
   -- all trees of a network, in their order
   treesAre : Network → List (List ℕ) → Example
+  -- those that keep the rows' states
+  layoutsAre : Network → List (List ℕ) → Example
   -- the front of a network, and of a list of vectors
   frontIs : Network → List (List ℕ) → Example
   frontOfIs : List (List ℕ) → List (List ℕ) → Example
@@ -29,6 +32,7 @@ pub data Example : Type 0 where
 
 abbrev pub Right : Example → Type 0
 Right (treesAre g l) = trees (graphOf g) ≡ l
+Right (layoutsAre g l) = layouts g ≡ l
 Right (frontIs g l) = front g ≡ l
 Right (frontOfIs vs l) = frontOf vs ≡ l
 Right (treeIs g rs b) = isTree (graphOf g) rs ≡ b
@@ -49,10 +53,22 @@ A = record {
   nodeCount = 3;
   kinds = added ∷ worst ∷ [];
   rows =
-      record { firstEnd = 1; secondEnd = 2; street = 0; costs = 4 ∷ 7 ∷ [] } ∷
-      record { firstEnd = 1; secondEnd = 2; street = 0; costs = 6 ∷ 2 ∷ [] } ∷
-      record { firstEnd = 1; secondEnd = 3; street = 0; costs = 5 ∷ 5 ∷ [] } ∷
-      record { firstEnd = 2; secondEnd = 3; street = 0; costs = 3 ∷ 6 ∷ [] } ∷ [];
+      record { firstEnd = 1; secondEnd = 2; street = 0; state = «open»; costs = 4 ∷ 7 ∷ [] } ∷
+      record { firstEnd = 1; secondEnd = 2; street = 0; state = «open»; costs = 6 ∷ 2 ∷ [] } ∷
+      record { firstEnd = 1; secondEnd = 3; street = 0; state = «open»; costs = 5 ∷ 5 ∷ [] } ∷
+      record { firstEnd = 2; secondEnd = 3; street = 0; state = «open»; costs = 3 ∷ 6 ∷ [] } ∷ [];
+}
+
+-- network A with row 0 barred, and row 3 a must row
+abbrev pub B : Network
+B = record {
+  nodeCount = 3;
+  kinds = added ∷ worst ∷ [];
+  rows =
+      record { firstEnd = 1; secondEnd = 2; street = 0; state = barred; costs = 4 ∷ 7 ∷ [] } ∷
+      record { firstEnd = 1; secondEnd = 2; street = 0; state = «open»; costs = 6 ∷ 2 ∷ [] } ∷
+      record { firstEnd = 1; secondEnd = 3; street = 0; state = «open»; costs = 5 ∷ 5 ∷ [] } ∷
+      record { firstEnd = 2; secondEnd = 3; street = 0; state = must; costs = 3 ∷ 6 ∷ [] } ∷ [];
 }
 
 -- The bound falls on a member of the front while the table is full of vectors that are no members: a second pass finds it.
@@ -65,6 +81,9 @@ three = (0 ∷ 2 ∷ []) ∷ (0 ∷ 3 ∷ []) ∷ (1 ∷ 2 ∷ []) ∷ []
 abbrev pub table : List Example
 table =
     treesAre A ((0 ∷ 2 ∷ []) ∷ (0 ∷ 3 ∷ []) ∷ (1 ∷ 2 ∷ []) ∷ (1 ∷ 3 ∷ []) ∷ (2 ∷ 3 ∷ []) ∷ [])
+    ∷ layoutsAre A ((0 ∷ 2 ∷ []) ∷ (0 ∷ 3 ∷ []) ∷ (1 ∷ 2 ∷ []) ∷ (1 ∷ 3 ∷ []) ∷ (2 ∷ 3 ∷ []) ∷ [])
+    ∷ layoutsAre B ((1 ∷ 3 ∷ []) ∷ (2 ∷ 3 ∷ []) ∷ [])
+    ∷ frontIs B ((8 ∷ 6 ∷ []) ∷ [])
     ∷ frontIs A ((7 ∷ 7 ∷ []) ∷ (8 ∷ 6 ∷ []) ∷ (11 ∷ 5 ∷ []) ∷ [])
     ∷ treeIs A (0 ∷ 1 ∷ []) false
     ∷ treeIs A (3 ∷ 2 ∷ []) true

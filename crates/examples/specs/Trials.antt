@@ -1,15 +1,15 @@
--- Document 01's starred trials, as questions to the definitions of the operations, each with its answer, on network A's file.
+-- Document 01's starred trials, as questions to the definitions of the operations, each with its answer, on network A's file; and trials
+-- of document 02's row states (#102) on files with the same rows.
 use mathlib.Core.Path.{_≡_}
 use mathlib.Core.Bool.{Bool, false, true}
 use mathlib.Core.List.{List, [], _∷_}
 use Prim.Native.Nat.{ℕ}
-use Rattle.graph.specs.Paths.{trees}
 use Rattle.checks.specs.Checks.{Ended, Outcome, answered, refused}
 use Rattle.costs.specs.Costs.{dominates, front}
 use Rattle.costs.specs.Network.{Network}
 use Rattle.network_file.specs.File.{Sizes, networkOf, openOf}
-use Rattle.operations.specs.Operations.{Paged, graphIn, orderCall, pageCall}
-use Rattle.examples.specs.Examples.{A}
+use Rattle.operations.specs.Operations.{Paged, Reached, layoutsIn, orderCall, pageCall, reachCall}
+use Rattle.examples.specs.Examples.{A, B}
 
 -- the 59 bytes of network A's file: the sizes, the kinds, and a line for each row
 abbrev pub fileA : List ℕ
@@ -21,27 +21,45 @@ fileA =
     ∷ 2 ∷ 3 ∷ 0 ∷ 0 ∷ 0 ∷ 0 ∷ 0 ∷ 3 ∷ 0 ∷ 0 ∷ 0 ∷ 6
     ∷ []
 
+-- the same rows in version 2, with a state byte in each after the street
+abbrev pub withStates : ℕ → ℕ → ℕ → ℕ → List ℕ
+withStates s0 s1 s2 s3 =
+    2 ∷ 0 ∷ 0 ∷ 0 ∷ 58 ∷ 3 ∷ 0 ∷ 4 ∷ 2 ∷ 0 ∷ 1
+    ∷ 1 ∷ 2 ∷ 0 ∷ 0 ∷ s0 ∷ 0 ∷ 0 ∷ 0 ∷ 4 ∷ 0 ∷ 0 ∷ 0 ∷ 7
+    ∷ 1 ∷ 2 ∷ 0 ∷ 0 ∷ s1 ∷ 0 ∷ 0 ∷ 0 ∷ 6 ∷ 0 ∷ 0 ∷ 0 ∷ 2
+    ∷ 1 ∷ 3 ∷ 0 ∷ 0 ∷ s2 ∷ 0 ∷ 0 ∷ 0 ∷ 5 ∷ 0 ∷ 0 ∷ 0 ∷ 5
+    ∷ 2 ∷ 3 ∷ 0 ∷ 0 ∷ s3 ∷ 0 ∷ 0 ∷ 0 ∷ 3 ∷ 0 ∷ 0 ∷ 0 ∷ 6
+    ∷ []
+
+-- network B's file: row 0 is barred, row 3 must be dug
+abbrev pub fileB : List ℕ
+fileB = withStates 2 0 0 1
+
+-- each of a file
 pub data Trial : Type 0 where
-  opened : Outcome Sizes → Trial
-  network : Network → Trial
-  list : List (List ℕ) → Trial
-  fronts : List (List ℕ) → Trial
+  opened : List ℕ → Outcome Sizes → Trial
+  network : List ℕ → Network → Trial
+  list : List ℕ → List (List ℕ) → Trial
+  fronts : List ℕ → List (List ℕ) → Trial
+  reached : List ℕ → Outcome Reached → Trial
   -- Order of these rows into a buffer of three places
-  order : List ℕ → Ended (Unit {0}) (List ℕ) → Trial
+  order : List ℕ → List ℕ → Ended (Unit {0}) (List ℕ) → Trial
   -- Page after this path, with a page of three places
-  page : List ℕ → Ended Paged (List ℕ) → Trial
+  page : List ℕ → List ℕ → Ended Paged (List ℕ) → Trial
+  -- and of two vectors
   dominance : List ℕ → List ℕ → Bool → Trial
 
 abbrev pub buffer : List ℕ
 buffer = 7 ∷ 8 ∷ 9 ∷ []
 
 abbrev pub Right : Trial → Type 0
-Right (opened o) = openOf fileA ≡ o
-Right (network w) = networkOf fileA ≡ w
-Right (list l) = trees (graphIn fileA) ≡ l
-Right (fronts l) = front (networkOf fileA) ≡ l
-Right (order rows e) = orderCall fileA rows buffer ≡ e
-Right (page start e) = pageCall fileA buffer start ≡ e
+Right (opened f o) = openOf f ≡ o
+Right (network f w) = networkOf f ≡ w
+Right (list f l) = layoutsIn f ≡ l
+Right (fronts f l) = front (networkOf f) ≡ l
+Right (reached f o) = reachCall f ≡ o
+Right (order f rows e) = orderCall f rows buffer ≡ e
+Right (page f start e) = pageCall f buffer start ≡ e
 Right (dominance v w b) = dominates v w ≡ b
 
 abbrev pub AllRight : List Trial → Type 0
@@ -54,22 +72,45 @@ ordered after = record { outcome = answered tt; buffers = after }
 abbrev refusedBy : {A : Type 0} → ℕ → Ended A (List ℕ)
 refusedBy e = record { outcome = refused e; buffers = buffer }
 
+abbrev paged : ℕ → Bool → List ℕ → Ended Paged (List ℕ)
+paged count more after = record { outcome = answered (record { count = count; more = more }); buffers = after }
+
 abbrev pub table : List Trial
 table =
-    opened (answered (record { n = 3; m = 4; k = 2 }))
-    ∷ network A
-    ∷ list ((0 ∷ 2 ∷ []) ∷ (0 ∷ 3 ∷ []) ∷ (1 ∷ 2 ∷ []) ∷ (1 ∷ 3 ∷ []) ∷ (2 ∷ 3 ∷ []) ∷ [])
-    ∷ fronts ((7 ∷ 7 ∷ []) ∷ (8 ∷ 6 ∷ []) ∷ (11 ∷ 5 ∷ []) ∷ [])
-    ∷ order (2 ∷ 0 ∷ []) (ordered (0 ∷ 2 ∷ 9 ∷ []))
-    ∷ order (3 ∷ 2 ∷ []) (ordered (2 ∷ 3 ∷ 9 ∷ []))
-    ∷ order (0 ∷ 1 ∷ []) (refusedBy 10)
-    ∷ order (0 ∷ 0 ∷ []) (refusedBy 10)
-    ∷ order (0 ∷ []) (refusedBy 8)
-    ∷ order (0 ∷ 4 ∷ []) (refusedBy 9)
-    ∷ page (3 ∷ 2 ∷ []) (refusedBy 13)
-    ∷ page (2 ∷ 3 ∷ []) (record { outcome = answered (record { count = 0; more = false }); buffers = buffer })
+    opened fileA (answered (record { n = 3; m = 4; k = 2 }))
+    ∷ network fileA A
+    ∷ list fileA ((0 ∷ 2 ∷ []) ∷ (0 ∷ 3 ∷ []) ∷ (1 ∷ 2 ∷ []) ∷ (1 ∷ 3 ∷ []) ∷ (2 ∷ 3 ∷ []) ∷ [])
+    ∷ fronts fileA ((7 ∷ 7 ∷ []) ∷ (8 ∷ 6 ∷ []) ∷ (11 ∷ 5 ∷ []) ∷ [])
+    ∷ order fileA (2 ∷ 0 ∷ []) (ordered (0 ∷ 2 ∷ 9 ∷ []))
+    ∷ order fileA (3 ∷ 2 ∷ []) (ordered (2 ∷ 3 ∷ 9 ∷ []))
+    ∷ order fileA (0 ∷ 1 ∷ []) (refusedBy 10)
+    ∷ order fileA (0 ∷ 0 ∷ []) (refusedBy 10)
+    ∷ order fileA (0 ∷ []) (refusedBy 8)
+    ∷ order fileA (0 ∷ 4 ∷ []) (refusedBy 9)
+    ∷ page fileA (3 ∷ 2 ∷ []) (refusedBy 13)
+    ∷ page fileA (2 ∷ 3 ∷ []) (paged 0 false buffer)
     ∷ dominance (7 ∷ 7 ∷ []) (9 ∷ 7 ∷ []) true
     ∷ dominance (7 ∷ 7 ∷ []) (7 ∷ 7 ∷ []) false
     ∷ dominance (7 ∷ 7 ∷ []) (8 ∷ 6 ∷ []) false
     ∷ dominance (8 ∷ 6 ∷ []) (7 ∷ 7 ∷ []) false
+    -- document 02, #102: the states are read, and 3 names none
+    ∷ opened fileB (answered (record { n = 3; m = 4; k = 2 }))
+    ∷ opened (withStates 2 0 0 3) (refused 14)
+    ∷ network fileB B
+    -- the trees with row 3 and without row 0; 10 keeps its plain sense, then 15: row 0 drawn, row 3 left out
+    ∷ list fileB ((1 ∷ 3 ∷ []) ∷ (2 ∷ 3 ∷ []) ∷ [])
+    ∷ fronts fileB ((8 ∷ 6 ∷ []) ∷ [])
+    ∷ order fileB (3 ∷ 1 ∷ []) (ordered (1 ∷ 3 ∷ 9 ∷ []))
+    ∷ order fileB (0 ∷ 1 ∷ []) (refusedBy 10)
+    ∷ order fileB (0 ∷ 3 ∷ []) (refusedBy 15)
+    ∷ order fileB (2 ∷ 1 ∷ []) (refusedBy 15)
+    ∷ page fileB (3 ∷ 0 ∷ []) (refusedBy 15)
+    ∷ page fileB (3 ∷ 2 ∷ []) (refusedBy 13)
+    ∷ page fileB (1 ∷ 3 ∷ []) (paged 1 false (2 ∷ 3 ∷ 9 ∷ []))
+    -- two parallel must rows are a cycle: all nodes are reached, and there is no tree
+    ∷ reached (withStates 1 1 0 0) (answered (record { word = 7; size = 3 }))
+    ∷ page (withStates 1 1 0 0) [] (refusedBy 12)
+    -- every row at node 2 is barred
+    ∷ reached (withStates 2 2 0 2) (answered (record { word = 5; size = 2 }))
+    ∷ page (withStates 2 2 0 2) [] (refusedBy 12)
     ∷ []

@@ -1,9 +1,9 @@
--- Front's checks one after the other: what the call comes to where the first is not met (`front-file`, `front-none`, `front-costs`, `front-witnesses`), and where all
+-- Front's checks one after the other: what the call comes to where the first is not met (`front-stops`, `front-costs`, `front-witnesses`), and where all
 -- are met and the passes have filled the tables (`front-filled`).
 use mathlib.Core.Path.{_∙_, _≡_, ap, refl, sym}
 use mathlib.Core.Bool.{_&&_}
 use mathlib.Core.Option.{none, some}
-use mathlib.Core.List.{List, [], _∷_, List·Memᴰ·not-nil as mem-nil}
+use mathlib.Core.List.{List, [], _++_, _∷_, append-assoc, List·Memᴰ·not-nil as mem-nil}
 use Prim.Native.Nat.{_-_, _/_, _<_, _≤_, min, ℕ}
 use native.Mathlib.Omega.{arith}
 use lib.Dec.{leb}
@@ -11,19 +11,20 @@ use lib.ListN.{length, length-take, take}
 use lib.Seq.{take-length, take-take}
 use borrow.Author.Tests.{le-leb, lt-leb}
 use Rattle.lists.proofs.Members.{take-out}
-use Rattle.checks.specs.Checks.{Ended, Outcome, firstUnmet, refused}
+use Rattle.checks.specs.Checks.{Check, Ended, Outcome, firstUnmet, refused}
 use Rattle.checks.proofs.Checks.{firstUnmet-append, firstUnmet-met, firstUnmet-unmet}
 use Rattle.checks.proofs.Ended.{ended-met, ended-unmet, firstUnmet-stops}
 use Rattle.graph.specs.Graph.{width}
-use Rattle.graph.specs.Paths.{trees}
 use Rattle.costs.specs.Costs.{front}
 use Rattle.network_file.specs.File.{Sizes, fileChecks, networkOf, sizesOf}
-use Rattle.operations.specs.Operations.{Fronted, Reached, Witnesses, capacity, check, frontCall, frontChecks, graphIn, reachCall, rowsFilled, someTree}
+use Rattle.operations.specs.Operations.{Fronted, Witnesses, capacity, check, frontCall, frontChecks, graphIn, layoutsIn, rowsFilled, someTree}
 use Rattle.pages.specs.Pages.{flat}
 use Rattle.passes.specs.Passes.{frontTrees}
 use Rattle.passes.proofs.FrontTrees.{front-listed, known-vectors}
 use Rattle.front.specs.Passes.{Filled}
-use Rattle.page.proofs.Given.{Learnt, file-met, reach-refused, tree-none, tree-some, width-read}
+use Rattle.listed.specs.Listed.{listedChecks}
+use Rattle.listed.proofs.Answers.{Lists}
+use Rattle.page.proofs.Given.{width-read}
 
 no-check : firstUnmet [] ≡ none
 unfolding firstUnmet
@@ -52,48 +53,48 @@ module _ (f costs witnesses : List ℕ) where
         },
       )
 
-  pub front-file : (e : ℕ) → reachCall f ≡ refused e → Right (refused e) costs witnesses
+  abbrev last : Check
+  last = check 11 (leb (sizesOf f .k) (length costs) && leb (width (graphIn f)) (length witnesses))
+
+  table : frontChecks f costs witnesses ≡ listedChecks f ++ (last ∷ [])
   unfolding frontChecks
-  front-file e h = refuse e (firstUnmet-stops (fileChecks f) _ e (reach-refused f e h))
+  table = sym (append-assoc (fileChecks f) (check 12 (someTree (layoutsIn f)) ∷ []) (last ∷ []))
 
-  module _ {x : Reached} {h : Sizes} (l : Learnt f x h) where
-    -- the checks behind the file's
-    behind-file : {o : _} → firstUnmet (check 12 (someTree (trees (graphIn f))) ∷ check 11 (leb (sizesOf f .k) (length costs) && leb (width (graphIn f)) (length witnesses)) ∷ []) ≡ o
-        → firstUnmet (frontChecks f costs witnesses) ≡ o
-    unfolding frontChecks
-    behind-file e = firstUnmet-append (fileChecks f) _ (file-met l) ∙ e
+  -- Open's checks, and 12
+  pub front-stops : (e : ℕ) → firstUnmet (listedChecks f) ≡ some e → Right (refused e) costs witnesses
+  front-stops e h = refuse e (ap firstUnmet table ∙ firstUnmet-stops (listedChecks f) (last ∷ []) e h)
 
-    pub front-none : ¬ (x .size ≡ h .n) → Right (refused 12) costs witnesses
-    front-none n = refuse 12 (behind-file (firstUnmet-unmet _ _ (tree-none l n)))
+  module _ {h : Sizes} (l : Lists f h) where
+    -- check 11 alone
+    behind-listed : {o : _} → firstUnmet (last ∷ []) ≡ o → firstUnmet (frontChecks f costs witnesses) ≡ o
+    behind-listed e = ap firstUnmet table ∙ firstUnmet-append (listedChecks f) (last ∷ []) (l .all) ∙ e
 
     criteria-read : sizesOf f .k ≡ h .k
     criteria-read = ap (λ (s : Sizes). s .k) (sym (l .sizes))
 
-    module _ (tree : x .size ≡ h .n) where
-      pub front-costs : length costs < h .k → Right (refused 11) costs witnesses
-      front-costs less = refuse 11 (behind-file (firstUnmet-met _ _ (tree-some l tree) ∙ firstUnmet-unmet _ _ (rw (criteria-read, lt-leb _ _ less))))
+    pub front-costs : length costs < h .k → Right (refused 11) costs witnesses
+    front-costs less = refuse 11 (behind-listed (firstUnmet-unmet _ _ (rw (criteria-read, lt-leb _ _ less))))
 
-      module _ (costs-fit : h .k ≤ length costs) where
-        pub front-witnesses : length witnesses < h .n - 1 → Right (refused 11) costs witnesses
-        front-witnesses less =
-            refuse 11 (behind-file (firstUnmet-met _ _ (tree-some l tree) ∙ firstUnmet-unmet _ _ (rw (criteria-read, le-leb _ _ costs-fit, ← width-read l, lt-leb _ _ less))))
+    module _ (costs-fit : h .k ≤ length costs) where
+      pub front-witnesses : length witnesses < h .n - 1 → Right (refused 11) costs witnesses
+      front-witnesses less = refuse 11 (behind-listed (firstUnmet-unmet _ _ (rw (criteria-read, le-leb _ _ costs-fit, ← width-read l, lt-leb _ _ less))))
 
-        all-met : h .n - 1 ≤ length witnesses → firstUnmet (frontChecks f costs witnesses) ≡ none
-        all-met fits =
-            behind-file (firstUnmet-met _ _ (tree-some l tree) ∙ firstUnmet-met _ _ (rw (criteria-read, le-leb _ _ costs-fit, ← width-read l, le-leb _ _ fits)) ∙ no-check)
+      all-met : h .n - 1 ≤ length witnesses → firstUnmet (frontChecks f costs witnesses) ≡ none
+      all-met fits =
+          behind-listed (firstUnmet-met _ _ (rw (criteria-read, le-leb _ _ costs-fit, ← width-read l, le-leb _ _ fits)) ∙ no-check)
 
-        pub front-filled : h .n - 1 ≤ length witnesses → (rows : ℕ) → rows ≡ min (length costs / h .k) (length witnesses / (h .n - 1))
-            → (o : Outcome Fronted) (costs′ witnesses′ : List ℕ) → Filled f rows costs witnesses o costs′ witnesses′ → Right o costs′ witnesses′
-        unfolding frontCall capacity
-        front-filled fits rows e o costs′ witnesses′ filled =
-            let same : min (length costs / sizesOf f .k) (length witnesses / width (graphIn f)) ≡ rows = rw (criteria-read, ← width-read l) (sym e) in
-            let call = ended-met (frontChecks f costs witnesses) _ costs _ (all-met fits) in
-            let count = ap (λ (n : ℕ). take (min (length (front (networkOf f))) n) (front (networkOf f))) same ∙ take-least rows (front (networkOf f)) in (
-              rw (filled .answer, filled .costs-are, ← same) (sym call),
-              record {
-                paths = take rows (frontTrees (networkOf f));
-                listed = λ p m. front-listed (networkOf f) p (take-out rows (frontTrees (networkOf f)) m);
-                vectors = known-vectors (networkOf f) rows ∙ sym (ap (λ (r : Ended Fronted (List ℕ)). take (rowsFilled (r .outcome)) (front (networkOf f))) call ∙ count);
-                table = filled .witnesses-are;
-              },
-            )
+      pub front-filled : h .n - 1 ≤ length witnesses → (rows : ℕ) → rows ≡ min (length costs / h .k) (length witnesses / (h .n - 1))
+          → (o : Outcome Fronted) (costs′ witnesses′ : List ℕ) → Filled f rows costs witnesses o costs′ witnesses′ → Right o costs′ witnesses′
+      unfolding frontCall capacity
+      front-filled fits rows e o costs′ witnesses′ filled =
+          let same : min (length costs / sizesOf f .k) (length witnesses / width (graphIn f)) ≡ rows = rw (criteria-read, ← width-read l) (sym e) in
+          let call = ended-met (frontChecks f costs witnesses) _ costs _ (all-met fits) in
+          let count = ap (λ (n : ℕ). take (min (length (front (networkOf f))) n) (front (networkOf f))) same ∙ take-least rows (front (networkOf f)) in (
+            rw (filled .answer, filled .costs-are, ← same) (sym call),
+            record {
+              paths = take rows (frontTrees (networkOf f));
+              listed = λ p m. front-listed (networkOf f) p (take-out rows (frontTrees (networkOf f)) m);
+              vectors = known-vectors (networkOf f) rows ∙ sym (ap (λ (r : Ended Fronted (List ℕ)). take (rowsFilled (r .outcome)) (front (networkOf f))) call ∙ count);
+              table = filled .witnesses-are;
+            },
+          )

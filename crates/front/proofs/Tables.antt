@@ -12,13 +12,13 @@ use borrow.Author.Tests.{le-leb, lt-leb}
 use Rattle.lists.proofs.Members.{take-out}
 use Rattle.checks.specs.Checks.{answered}
 use Rattle.graph.specs.Graph.{width}
-use Rattle.graph.specs.Paths.{trees}
-use Rattle.graph.proofs.Trees.{trees-length}
+use Rattle.graph.proofs.Parts.{part-length}
 use Rattle.costs.specs.Costs.{front, vectors}
 use Rattle.costs.proofs.Fronts.{Sized, front-out}
 use Rattle.costs.proofs.Networks.{vectors-sized}
 use Rattle.network_file.specs.File.{networkOf}
-use Rattle.operations.specs.Operations.{graphIn, over}
+use Rattle.operations.specs.Operations.{layoutsIn, over}
+use Rattle.operations.proofs.Files.{layouts-in}
 use Rattle.pages.specs.Pages.{flat, pieces}
 use Rattle.pages.proofs.Pages.{pieces-flat}
 use Rattle.passes.specs.Passes.{frontTrees}
@@ -67,16 +67,17 @@ pub record Standing (f : List ℕ) (k width capacity : ℕ) (costs₀ witnesses�
   pub costs-are : costs ≡ over (flat (take n (front (networkOf f)))) costs₀
   pub witnesses-are : witnesses ≡ over (flat (take n (frontTrees (networkOf f)))) witnesses₀
 
-module _ {f nb firsts seconds : List ℕ} {limit plant nodes width k : ℕ} (l : Laid f nb firsts seconds limit plant nodes width k)
+module _ {f nb firsts seconds mustNb mustFirsts mustSeconds : List ℕ} {limit plant nodes width k : ℕ}
+    (l : Laid f nb firsts seconds mustNb mustFirsts mustSeconds limit plant nodes width k)
     {capacity : ℕ} {costs₀ witnesses₀ : List ℕ} (lent : Holding capacity k width costs₀ witnesses₀) where
   abbrev F : List (List ℕ)
   F = front (networkOf f)
 
   vectors-long : Sized k F
-  vectors-long v m = vectors-sized (networkOf f) (trees (graphIn f)) v (front-out (vectors (networkOf f)) m .0) ∙ l .accepted .kinds ∙ sym (l .criteria)
+  vectors-long v m = vectors-sized (networkOf f) (layoutsIn f) v (front-out (vectors (networkOf f)) m .0) ∙ l .accepted .kinds ∙ sym (l .criteria)
 
   trees-long : Sized width (frontTrees (networkOf f))
-  trees-long p m = omega (arith, trees-length (graphIn f) p (front-listed (networkOf f) p m), l .fitted .wide)
+  trees-long p m = omega (arith, part-length (layouts-in f (l .accepted)) p (front-listed (networkOf f) p m), l .fitted .wide)
 
   trees-few : length (frontTrees (networkOf f)) ≡ length F
   trees-few = front-trees-length (networkOf f)

@@ -7,30 +7,33 @@ use Prim.Native.Nat.{_*_, _+_, _<_, _≤_, min, ℕ}
 use lib.Dec.{leb}
 use lib.ListN.{drop, length, take}
 use Rattle.checks.specs.Checks.{Outcome, answered}
-use Rattle.graph.specs.Graph.{rowNumbers}
-use Rattle.graph.proofs.Growth.{Live, start}
+use Rattle.lists.proofs.Members.{_∈_}
 use Rattle.costs.specs.Costs.{front}
+use Rattle.costs.specs.Layouts.{mustRows}
 use Rattle.network_file.specs.File.{networkOf, sizesOf}
 use Rattle.network_file.proofs.Accepted.{Accepted}
 use Rattle.pages.specs.Pages.{flat, pieces}
-use Rattle.operations.specs.Operations.{Fronted, graphIn, over}
+use Rattle.operations.specs.Operations.{Fronted, layoutsIn, openIn, over}
 use Rattle.passes.specs.Passes.{frontTrees}
 use Rattle.scratch.specs.declared.Scratch.{Scratch}
+use Rattle.grow.proofs.Musts.{Mustered}
 use Rattle.walk.proofs.Behind.{Fitted}
 
 -- how many rows the scratch table has
 abbrev pub scratchRows : ℕ
 scratchRows = 64
 
--- what the walk is given fits the graph of an accepted file, which has a spanning tree
-pub record Laid (f nb firsts seconds : List ℕ) (limit plant nodes width k : ℕ) : Type 0 where
+-- what the walk is given fits the graph of an accepted file without the barred rows, and its must rows; and the network has a tree
+pub record Laid (f nb firsts seconds mustNb mustFirsts mustSeconds : List ℕ) (limit plant nodes width k : ℕ) : Type 0 where
   pub accepted : Accepted f
-  pub fitted : Fitted (graphIn f) nb limit nodes width
-  pub first-ends : firsts ≡ graphIn f .firstEnds
-  pub second-ends : seconds ≡ graphIn f .secondEnds
-  pub planted : plant ≡ graphIn f .plant
+  pub fitted : Fitted (openIn f) nb limit nodes width
+  pub mustered : Mustered (openIn f) nb mustNb mustFirsts mustSeconds limit (mustRows (networkOf f))
+  pub first-ends : firsts ≡ openIn f .firstEnds
+  pub second-ends : seconds ≡ openIn f .secondEnds
+  pub planted : plant ≡ openIn f .plant
   pub criteria : k ≡ sizesOf f .k
-  pub joined : Live (graphIn f) (rowNumbers (graphIn f)) (start (graphIn f))
+  pub tree : List ℕ
+  pub listed : tree ∈ layoutsIn f
 
 -- the first n vectors of the front stand in a table
 pub record KnownRows (f : List ℕ) (k n : ℕ) (table : List ℕ) : Type 0 where

@@ -1,4 +1,4 @@
-//! Front: the vectors of spanning trees that no spanning tree's vector dominates, ascending, each with a tree of that cost.
+//! Front: the vectors of the network's trees that no such tree's vector dominates, ascending, each with a tree of that cost.
 //! Passes over the list: rows known to be final stand in the lent tables, candidates behind them in a scratch table of the function's own.
 ghost use mathlib.Core.Path.{_≡_};
 ghost use mathlib.Core.List.{[]};
@@ -6,19 +6,21 @@ ghost use Prim.Native.Nat.{_*_, _+_};
 ghost use lib.ListN.{length};
 ghost use lib.Seq.{paste};
 ghost use Rattle.costs.specs.Costs.{costOf};
-ghost use Rattle.grow.specs.Grow.{freshAfter, growOf};
+ghost use Rattle.grow.specs.Grow.{freshAfter};
+ghost use Rattle.grow.specs.Musts.{growWith};
 ghost use Rattle.network_file.proofs.Accepted.{Accepted};
 ghost use Rattle.network_file.specs.File.{networkOf, sizesOf};
 ghost use Rattle.operations.specs.Operations.{Witnesses, frontCall};
 ghost use Rattle.paths.specs.Path.{enteredBy, keysOf, plantOf};
-ghost use Rattle.reach.specs.Answers.{reachedOf};
+ghost use Rattle.network.specs.Answers.{openedOf};
 ghost use Rattle.scratch.specs.Scratch.{offerOf};
 ghost use Rattle.spread.specs.Spread.{neighboursOf};
 ghost use Rattle.vector.specs.Vector.{rowsIn, vectorOf};
 ghost use Rattle.front.specs.Answers.{frontedOf, refusedBy};
 ghost use Rattle.front.specs.Passes.{Filled, Holding, KnownRows, Laid, Passed, scratchRows};
+use ends::Rows;
+use network::Opened;
 use paths::Path;
-use reach::ReachAnswer;
 use scratch::Scratch;
 
 /// How many rows the scratch table has.
@@ -42,19 +44,25 @@ fn first(
     neighbours: &[u64],
     firsts: &[u8],
     seconds: &[u8],
+    claims: &[u64],
+    heads: &[u8],
+    tails: &[u8],
     limit: u8,
     plant: u8,
     nodes: u64,
     width: usize,
 ) -> Path
-    ensures { λ r. ⌜ (plantOf r ≡ plant) × (keysOf r ≡ growOf (now (neighbours .entry)) (now (firsts .entry)) (now (seconds .entry)) limit plant width (freshAfter nodes (enteredBy plant [])) [] 0 0) ⌝ }
+    ensures { λ r. ⌜ (plantOf r ≡ plant) × (keysOf r ≡ growWith (now (neighbours .entry)) (now (firsts .entry)) (now (seconds .entry)) (now (claims .entry)) (now (heads .entry)) (now (tails .entry)) limit plant width (freshAfter nodes (enteredBy plant [])) [] 0 0) ⌝ }
 {
     let start = Path::start(plant);
     let fresh = grow::fresh_after(nodes, start);
-    grow::grown(
+    grow::grown_with(
         neighbours,
         firsts,
         seconds,
+        claims,
+        heads,
+        tails,
         limit,
         width,
         fresh,
@@ -108,6 +116,9 @@ fn pass(
     neighbours: &[u64],
     firsts: &[u8],
     seconds: &[u8],
+    claims: &[u64],
+    heads: &[u8],
+    tails: &[u8],
     limit: u8,
     plant: u8,
     nodes: u64,
@@ -118,18 +129,41 @@ fn pass(
     costs: &mut [u32],
     witnesses: &mut [u16],
 ) -> Scratch
-    requires { ⌜ Laid (now file) (now neighbours) (now firsts) (now seconds) limit plant nodes width k × KnownRows (now file) k count (now known) × Holding (scratchRows + 1) k width (now costs) (now witnesses) ⌝ }
+    requires { ⌜ Laid (now file) (now neighbours) (now firsts) (now seconds) (now claims) (now heads) (now tails) limit plant nodes width k × KnownRows (now file) k count (now known) × Holding (scratchRows + 1) k width (now costs) (now witnesses) ⌝ }
     ensures { λ r. ⌜ Passed (now (file .entry)) k width count r (now (costs .exit)) (now (witnesses .exit)) ⌝ }
 {
     let mut scratch = Scratch {
         count: 0,
         bounded: false,
     };
-    let mut path = first(neighbours, firsts, seconds, limit, plant, nodes, width);
+    let mut path = first(
+        neighbours,
+        firsts,
+        seconds,
+        claims,
+        heads,
+        tails,
+        limit,
+        plant,
+        nodes,
+        width,
+    );
     loop {
         scratch = offer(file, k, known, count, costs, witnesses, scratch, path);
         let len = skip_length(path);
-        let next = walk::after(neighbours, firsts, seconds, limit, nodes, width, path, len);
+        let next = walk::after(
+            neighbours,
+            firsts,
+            seconds,
+            claims,
+            heads,
+            tails,
+            limit,
+            nodes,
+            width,
+            path,
+            len,
+        );
         if next.some {
             path = next.path;
         } else {
@@ -162,6 +196,9 @@ fn passes(
     neighbours: &[u64],
     firsts: &[u8],
     seconds: &[u8],
+    claims: &[u64],
+    heads: &[u8],
+    tails: &[u8],
     limit: u8,
     plant: u8,
     nodes: u64,
@@ -171,7 +208,7 @@ fn passes(
     costs: &mut [u32],
     witnesses: &mut [u16],
 ) -> FrontAnswer
-    requires { ⌜ Laid (now file) (now neighbours) (now firsts) (now seconds) limit plant nodes width k × Holding capacity k width (now costs) (now witnesses) ⌝ }
+    requires { ⌜ Laid (now file) (now neighbours) (now firsts) (now seconds) (now claims) (now heads) (now tails) limit plant nodes width k × Holding capacity k width (now costs) (now witnesses) ⌝ }
     ensures { λ r. ⌜ Filled (now (file .entry)) capacity (now (costs .entry)) (now (witnesses .entry)) (frontedOf r) (now (costs .exit)) (now (witnesses .exit)) ⌝ }
 {
     let mut vectors = [0u32; (SCRATCH + 1) * 4];
@@ -183,6 +220,9 @@ fn passes(
             neighbours,
             firsts,
             seconds,
+            claims,
+            heads,
+            tails,
             limit,
             plant,
             nodes,
@@ -217,6 +257,8 @@ fn fill(
     file: &[u8],
     firsts: &[u8],
     seconds: &[u8],
+    heads: &[u8],
+    tails: &[u8],
     limit: u8,
     plant: u8,
     nodes: u64,
@@ -226,15 +268,19 @@ fn fill(
     costs: &mut [u32],
     witnesses: &mut [u16],
 ) -> FrontAnswer
-    requires { ⌜ Laid (now file) (neighboursOf (now firsts) (now seconds)) (now firsts) (now seconds) limit plant nodes width k × Holding capacity k width (now costs) (now witnesses) ⌝ }
+    requires { ⌜ Laid (now file) (neighboursOf (now firsts) (now seconds)) (now firsts) (now seconds) (neighboursOf (now heads) (now tails)) (now heads) (now tails) limit plant nodes width k × Holding capacity k width (now costs) (now witnesses) ⌝ }
     ensures { λ r. ⌜ Filled (now (file .entry)) capacity (now (costs .entry)) (now (witnesses .entry)) (frontedOf r) (now (costs .exit)) (now (witnesses .exit)) ⌝ }
 {
     let neighbours = spread::neighbours(firsts, seconds);
+    let claims = spread::neighbours(heads, tails);
     passes(
         file,
         &neighbours,
         firsts,
         seconds,
+        &claims,
+        heads,
+        tails,
         limit,
         plant,
         nodes,
@@ -246,13 +292,13 @@ fn fill(
     )
 }
 
-// A refusal of Reach as one of Front; only a refusal is asked.
-fn refused(reached: ReachAnswer) -> FrontAnswer
-    ensures { λ r. ⌜ frontedOf r ≡ refusedBy (reachedOf reached) ⌝ }
+// A refusal of Open, or of 12, as one of Front; only a refusal is asked.
+fn refused(opened: Opened) -> FrontAnswer
+    ensures { λ r. ⌜ frontedOf r ≡ refusedBy (openedOf opened) ⌝ }
 {
-    match reached {
-        ReachAnswer::Set { word: _, size: _ } => FrontAnswer::Refused(0),
-        ReachAnswer::Refused(number) => FrontAnswer::Refused(number),
+    match opened {
+        Opened::Header(_) => FrontAnswer::Refused(0),
+        Opened::Refused(number) => FrontAnswer::Refused(number),
     }
 }
 
@@ -260,15 +306,11 @@ fn refused(reached: ReachAnswer) -> FrontAnswer
 pub fn front(file: &[u8], costs: &mut [u32], witnesses: &mut [u16]) -> FrontAnswer
     ensures { λ r. ⌜ (record { outcome = frontedOf r; buffers = now (costs .exit) } ≡ frontCall (now (file .entry)) (now (costs .entry)) (now (witnesses .entry))) × Witnesses (now (file .entry)) (now (costs .entry)) (now (witnesses .entry)) (now (witnesses .exit)) ⌝ }
 {
-    let reached = reach::reach(file);
-    let ReachAnswer::Set { word: _, size } = reached else {
-        return refused(reached);
+    let opened = listed::listed(file);
+    let Opened::Header(header) = opened else {
+        return refused(opened);
     };
-    let header = network::header_of(file);
     let n = header.n;
-    if size != n as u32 {
-        return FrontAnswer::Refused(12);
-    }
     let k = header.k as usize;
     if costs.len() < k {
         return FrontAnswer::Refused(11);
@@ -279,13 +321,19 @@ pub fn front(file: &[u8], costs: &mut [u32], witnesses: &mut [u16]) -> FrontAnsw
     }
     let capacity = copies::smaller(costs.len() / k, witnesses.len() / width);
     let m = header.m as usize;
-    let firsts = ends::first_ends(file);
-    let seconds = ends::second_ends(file);
+    let open = ends::ends_of(file, Rows::Unbarred);
+    let firsts = open.firsts;
+    let seconds = open.seconds;
+    let must = ends::ends_of(file, Rows::Must);
+    let heads = must.firsts;
+    let tails = must.seconds;
     let nodes = ends::nodes_word(n);
     fill(
         file,
         &firsts[..m],
         &seconds[..m],
+        &heads[..m],
+        &tails[..m],
         n,
         1,
         nodes,

@@ -85,7 +85,7 @@ module _ (g : Graph) (wf : WellFormed g) where
       go (forth p q) e = wf .noZero (mem-cast (sym e ∙ p) a)
       go (back p q) e = wf .noZero (mem-cast (sym e ∙ p) b)
 
-  known-from : (rs : List ℕ) (s : State) (ks : List Key) → Sound g s → Completion g rs s ks → (r : ℕ) → r ∈ rowsOf ks → r < length (g .firstEnds)
+  pub known-from : (rs : List ℕ) (s : State) (ks : List Key) → Sound g s → Completion g rs s ks → (r : ℕ) → r ∈ rowsOf ks → r < length (g .firstEnds)
   known-from rs s [] o c r i = absurd (mem-nil i)
   known-from rs s (k ∷ ks) o c r i = ⊎-elim
       (λ e. rw e (row-known (c .0 .step .joined) (o .nodes (c .0 .step .pivot) (c .0 .step .leaves)) (c .0 .step .enters)))

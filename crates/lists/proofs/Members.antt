@@ -11,7 +11,7 @@ use native.Mathlib.Decide.{ℕ-discrete}
 use native.Mathlib.Omega.{arith}
 use lib.Dec.{T, eqb, eqb-refl, eqb→eq}
 use lib.ListN.{drop, length, length-append, take, take-append-drop}
-use Rattle.lists.specs.Lists.{all, any, filterB, first, keepIf, member, range, same, someIf}
+use Rattle.lists.specs.Lists.{all, any, both, filterB, first, hasAll, keepIf, member, range, same, someIf}
 use Rattle.lists.proofs.Tests.{T-both, T-either, T-false, T-true, decide}
 
 module _ {A : Type 0} where
@@ -170,6 +170,25 @@ module _ {A : Type 0} (p : A → Bool) where
 -- Numbers
 
 -- `member` is membership
+-- two tests that agree on the members
+pub filter-same : {A : Type 0} (p q : A → Bool) (l : List A) → ((a : A) → a ∈ l → p a ≡ q a) → filterB p l ≡ filterB q l
+unfolding filterB
+filter-same p q [] h = refl
+filter-same p q (a ∷ l) h = rw (h a (here refl), filter-same p q l (λ b m. h b (there m)))
+
+-- two tests at once, or one after the other
+pub filter-both : {A : Type 0} (p q : A → Bool) (l : List A) → filterB (λ a. both (p a) (q a)) l ≡ filterB p (filterB q l)
+unfolding filterB
+filter-both p q [] = refl
+filter-both {A} p q (a ∷ l) = go (p a) (q a) refl (filter-both p q l)
+  where
+    go : (x y : Bool) → p a ≡ x → filterB (λ a. both (p a) (q a)) l ≡ filterB p (filterB q l)
+        → keepIf (both x y) a (filterB (λ a. both (p a) (q a)) l) ≡ filterB p (keepIf y a (filterB q l))
+    go true true e h = rw e (ap (λ (m : List A). a ∷ m) h)
+    go true false e h = h
+    go false true e h = rw e h
+    go false false e h = h
+
 pub member-out : (x : ℕ) (l : List ℕ) → T (member x l) → x ∈ l
 unfolding member
 member-out x l t = let (y, m, e) = any-out (λ y. eqb x y) l t in mem-cast (eqb→eq x y e) m
@@ -179,6 +198,12 @@ unfolding member
 member-in {x} m = any-in (λ y. eqb x y) m (eqb-refl x)
 
 -- `range from n`: the numbers from `from` up to below `from + n`
+pub hasAll-out : (these l : List ℕ) → T (hasAll these l) → these ⊆ l
+hasAll-out these l t x i = member-out x l (all-out (λ x. member x l) t i)
+
+pub hasAll-in : (these l : List ℕ) → these ⊆ l → T (hasAll these l)
+hasAll-in these l w = all-in (λ x. member x l) these (λ x i. member-in (w x i))
+
 pub range-out : (from n : ℕ) {x : ℕ} → x ∈ range from n → (from ≤ x) × (x < from + n)
 unfolding range
 range-out from zero m = absurd (mem-nil m)

@@ -3,7 +3,7 @@ use mathlib.Core.Path.{_∙_, _≡_, ap, refl, sym}
 use mathlib.Core.Bool.{Bool, false, true}
 use mathlib.Core.List.{List, map}
 use Prim.Native.Nat.{_+_, _-_, _<_, _≤_, suc, zero, ℕ}
-use native.Mathlib.Decide.{ℕ-discrete}
+use native.Mathlib.Decide.{decLt, ℕ-discrete}
 use native.Mathlib.Nat.{zero-add}
 use native.Mathlib.Numerals.{add-one}
 use native.Mathlib.Omega.{arith}
@@ -83,3 +83,33 @@ module _ {A : Type 0} {f : ℕ → A} {none : A} {n : ℕ} where
     pub written-all : n ≤ r → l ≡ map f (range 0 n)
     written-all h = ext-getD none l (map f (range 0 n)) (so .whole ∙ sym (length-map (range 0 n) f ∙ range-length 0 n))
         (λ i k. so .holds i (omega arith) ∙ sym (getD-map-range f n i none (omega arith)))
+
+-- The same, where the places behind the first r hold `none` yet, so that a loop may end where f gives nothing else
+
+pub record WrittenSoFar {A : Type 0} (f : ℕ → A) (none : A) (n : ℕ) (l : List A) (r : ℕ) : Type 0 where
+  pub written : Written f none n l r
+  pub behind : (i : ℕ) → r ≤ i → getD l i none ≡ none
+
+module _ {A : Type 0} {f : ℕ → A} {none : A} {n : ℕ} where
+  pub so-far-start : (l : List A) → l ≡ map (λ i. none) (range 0 n) → WrittenSoFar f none n l 0
+  so-far-start l e = record {
+    written = written-start l (ap length e ∙ length-map (range 0 n) (λ i. none) ∙ range-length 0 n);
+    behind = λ i h. rw e (elim (decLt i n) [
+      | yes k ↦ getD-map-range (λ i. none) n i none k
+      | no k ↦ getD-map-past (λ i. none) n i none (omega arith)
+    ]);
+  }
+
+  module _ {l : List A} {r : ℕ} (so : WrittenSoFar f none n l r) where
+    pub so-far-next : (a : A) → r < n → a ≡ f r → WrittenSoFar f none n (set l r a) (r + 1)
+    so-far-next a h e = record {
+      written = written-next (so .written) a h e;
+      behind = λ i k. getD-set-other l r i a none (λ d. omega arith) ∙ so .behind i (omega arith);
+    }
+
+    pub so-far-all : ((i : ℕ) → r ≤ i → i < n → f i ≡ none) → l ≡ map f (range 0 n)
+    so-far-all past = ext-getD none l (map f (range 0 n)) (so .written .whole ∙ sym (length-map (range 0 n) f ∙ range-length 0 n))
+        (λ i k. (elim (decLt i r) [
+          | yes h ↦ so .written .holds i h
+          | no h ↦ so .behind i (omega arith) ∙ sym (past i (omega arith) (omega (arith, so .written .whole)))
+        ]) ∙ sym (getD-map-range f n i none (omega (arith, so .written .whole))))

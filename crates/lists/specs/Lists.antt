@@ -62,6 +62,10 @@ unfoldable pub member : ℕ → List ℕ → Bool
 unfolding any
 member x l = any (λ y. eqb x y) l
 
+-- l has all of these
+abbrev pub hasAll : List ℕ → List ℕ → Bool
+hasAll these l = all (λ x. member x l) these
+
 unfoldable pub sum : List ℕ → ℕ
 sum [] = 0
 sum (x ∷ l) = x + sum l

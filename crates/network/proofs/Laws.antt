@@ -16,52 +16,58 @@ use Rattle.lists.specs.Lists.{all, range}
 use Rattle.checks.proofs.Checks.{checked-next, checked-stop}
 use Rattle.checks.specs.Checks.{Check, Outcome, checked}
 use Rattle.costs.specs.Costs.{costAt}
-use Rattle.costs.specs.Network.{rowAt}
-use Rattle.network.specs.Answers.{kindIn, openedOf, rowWith}
+use Rattle.costs.specs.Network.{«open», rowAt}
+use Rattle.network.specs.Answers.{kindIn, openedOf, rowWith, stateIn, stateNamed}
 use Rattle.network_file.proofs.Accepted.{row-in, row-past}
-use Rattle.network_file.specs.File.{Sizes, bodyMet, byteAt, costsMet, costsSound, endsMet, endsSound, fileChecks, isKind, kindBytes, kindOf, kindsMet, networkOf, openOf, rowIn, rowStart, sizesMet, sizesOf, u16At, u32At, within}
+use Rattle.network_file.specs.File.{Sizes, bodyMet, byteAt, costsMet, costsSound, endsMet, endsSound, fileChecks, isKind, isState, kindBytes, kindOf, kindsMet, networkOf, openOf, rowBytes, rowIn, rowStart, sizesMet, sizesOf, stateByte, stateOf, stateOr, stateWidth, statesMet, u16At, u32At, within}
 use Rattle.network.specs.declared.ByteKind.the-variants.{Added, Closing, Unknown, Worst}
 use Rattle.network.specs.declared.ByteKind.{ByteKind}
+use Rattle.network.specs.declared.ByteState.{ByteState}
 use Rattle.network.specs.declared.Header.{Header}
 use Rattle.network.specs.declared.Opened.the-variants as opened
 use Rattle.network.specs.declared.Opened.{Opened}
 use Rattle.network.specs.declared.Row as code
+use Rattle.network.specs.declared.State.{State}
 use Rattle.network.proofs.ByteKind.{the-type}
 
--- m is a two-byte number and k a byte, so no place of the rows is out of a word's range
-pub row-reach : (row m k : ℕ) → row ≤ m → m < 65536 → k < 256 → row * (4 + 4 * k) ≤ 65536 * 1024
-row-reach row m k h a b = mul-le-mul {n₁ = row} {m₁ = 4 + 4 * k} {n₂ = 65536} {m₂ = 1024} (omega arith) (omega arith)
+-- a row number has two bytes and a row's length is short, so no place of the rows is out of a word's range
+pub row-reach : (row w : ℕ) → row < 65536 → w ≤ 1025 → row * w ≤ 65536 * 1025
+row-reach row w h a = mul-le-mul {n₁ = row} {m₁ = w} {n₂ = 65536} {m₂ = 1025} (omega arith) a
 
 -- Rows and costs of the file's network
 
 module _ (f : List ℕ) (r : ℕ) where
-  cost-in : (c : ℕ) → r < sizesOf f .m → c < sizesOf f .k → costAt (networkOf f) c r ≡ u32At f (rowStart f r + 4 + 4 * c)
+  cost-in : (c : ℕ) → r < sizesOf f .m → c < sizesOf f .k → costAt (networkOf f) c r ≡ u32At f (rowStart f r + 4 + stateWidth f + 4 * c)
   unfolding rowIn
-  cost-in c h l = rw (row-in f r h) (getD-map-range (λ c. u32At f (rowStart f r + 4 + 4 * c)) (sizesOf f .k) c 0 l)
-
--- where the code's header, the sizes s, has row r
-abbrev startBy : Sizes → ℕ → ℕ
-startBy s r = 9 + s .k + r * (4 + 4 * s .k)
+  cost-in c h l = rw (row-in f r h) (getD-map-range (λ c. u32At f (rowStart f r + 4 + stateWidth f + 4 * c)) (sizesOf f .k) c 0 l)
 
 -- the code has read the file's sizes s
 module _ (f : List ℕ) (r : ℕ) (s : Sizes) (same : s ≡ sizesOf f) where
-  start : startBy s r ≡ rowStart f r
-  start = ap (λ (t : Sizes). startBy t r) same
-
-  pub row-read : (x y z : ℕ) → r < s .m → x ≡ byteAt f (startBy s r) → y ≡ byteAt f (startBy s r + 1) → z ≡ u16At f (startBy s r + 2)
-      → record { firstEnd = x; secondEnd = y; street = z; costs = rowAt (networkOf f) r .costs } ≡ rowAt (networkOf f) r
+  -- and where row r begins
+  pub row-read : (x y z : ℕ) (state : State) (at : ℕ) → r < s .m → at ≡ rowStart f r → x ≡ byteAt f at → y ≡ byteAt f (at + 1) → z ≡ u16At f (at + 2)
+      → stateIn state ≡ stateOr (stateOf (stateByte f r))
+      → record { firstEnd = x; secondEnd = y; street = z; state = stateIn state; costs = rowAt (networkOf f) r .costs } ≡ rowAt (networkOf f) r
   unfolding rowIn
-  row-read x y z h a b d = rw (row-in f r (rw same at h), a, b, d, start)
+  row-read x y z state at h start a b d e = rw (row-in f r (rw same at h), a, b, d, e, start)
 
-  pub row-none : s .m ≤ r → record { firstEnd = 0; secondEnd = 0; street = 0; costs = rowAt (networkOf f) r .costs } ≡ rowAt (networkOf f) r
+  pub row-none : s .m ≤ r
+      → record { firstEnd = 0; secondEnd = 0; street = 0; state = «open»; costs = rowAt (networkOf f) r .costs } ≡ rowAt (networkOf f) r
   row-none h = rw (row-past f r (rw same at h))
 
-  pub cost-read : (c x : ℕ) → r < s .m → c < s .k → x ≡ u32At f (startBy s r + 4 + 4 * c) → x ≡ costAt (networkOf f) c r
-  cost-read c x h l e = e ∙ (rw start) ∙ sym (cost-in f r c (rw same at h) (rw same at l))
+  pub street-read : (z at : ℕ) → r < s .m → at ≡ rowStart f r → z ≡ u16At f (at + 2) → z ≡ rowAt (networkOf f) r .street
+  unfolding rowIn
+  street-read z at h start e = rw (row-in f r (rw same at h), e, start)
+
+  pub street-none : s .m ≤ r → 0 ≡ rowAt (networkOf f) r .street
+  street-none h = rw (row-past f r (rw same at h))
+
+  pub cost-read : (c x at : ℕ) → r < s .m → c < s .k → at ≡ rowStart f r + 4 + stateWidth f → x ≡ u32At f (at + 4 * c) → x ≡ costAt (networkOf f) c r
+  cost-read c x at h l start e = e ∙ ap (λ (a : ℕ). u32At f (a + 4 * c)) start ∙ sym (cost-in f r c (rw same at h) (rw same at l))
 
   pub cost-past : (c : ℕ) → r < s .m → s .k ≤ c → 0 ≡ costAt (networkOf f) c r
   unfolding rowIn
-  cost-past c h l = rw (row-in f r (rw same at h)) (sym (getD-map-past (λ c. u32At f (rowStart f r + 4 + 4 * c)) (sizesOf f .k) c 0 (rw same at l)))
+  cost-past c h l =
+      rw (row-in f r (rw same at h)) (sym (getD-map-past (λ c. u32At f (rowStart f r + 4 + stateWidth f + 4 * c)) (sizesOf f .k) c 0 (rw same at l)))
 
   pub cost-nowhere : (c : ℕ) → s .m ≤ r → 0 ≡ costAt (networkOf f) c r
   cost-nowhere c h = rw (row-past f r (rw same at h))
@@ -73,9 +79,9 @@ module _ (f : List ℕ) (s : Sizes) (same : s ≡ sizesOf f) where
   unfolding sizesMet
   sizes-by = sym (ap (λ (t : Sizes). within 2 32 (t .n) && (within 0 256 (t .m) && within 1 4 (t .k))) same)
 
-  pub body-by : bodyMet f ≡ eqb (u32At f 1) (4 + s .k + s .m * (4 + 4 * s .k))
+  pub body-by : bodyMet f ≡ eqb (u32At f 1) (4 + s .k + s .m * rowBytes f)
   unfolding bodyMet
-  body-by = sym (ap (λ (t : Sizes). eqb (u32At f 1) (4 + t .k + t .m * (4 + 4 * t .k))) same)
+  body-by = sym (ap (λ (t : Sizes). eqb (u32At f 1) (4 + t .k + t .m * rowBytes f)) same)
 
 -- check 5: the byte of criterion c names a kind
 unfoldable pub kindAt : List ℕ → ℕ → Bool
@@ -130,18 +136,31 @@ costs-start f s same =
 
 -- the cost of row r in criterion c
 unfoldable pub costFine : List ℕ → ℕ → ℕ → Bool
-costFine f r c = leb (u32At f (rowStart f r + 4 + 4 * c)) 1000000
+costFine f r c = leb (u32At f (rowStart f r + 4 + stateWidth f + 4 * c)) 1000000
 
 module _ (f : List ℕ) (r k : ℕ) (same : k ≡ byteAt f 8) where
   pub costs-row-start : costsSound (rowIn f r) ≡ all (costFine f r) (range 0 (k - 0))
   unfolding rowIn costFine
   costs-row-start =
-      sym (map-all (λ c. u32At f (rowStart f r + 4 + 4 * c)) (λ x. leb x 1000000) (range 0 (byteAt f 8)))
+      sym (map-all (λ c. u32At f (rowStart f r + 4 + stateWidth f + 4 * c)) (λ x. leb x 1000000) (range 0 (byteAt f 8)))
       ∙ all-range-start (costFine f r) (byteAt f 8) ∙ ap (λ (k : ℕ). all (costFine f r) (range 0 (k - 0))) (sym same)
 
   pub cost-asked : (c x : ℕ) → r < sizesOf f .m → c < k → x ≡ costAt (networkOf f) c r → costFine f r c ≡ leb x 1000000
   unfolding costFine
   cost-asked c x h l e = sym (ap (λ (y : ℕ). leb y 1000000) (e ∙ cost-in f r c h (rw same at l)))
+
+-- check 14: the state byte of row r
+unfoldable pub stateAt : List ℕ → ℕ → Bool
+stateAt f r = isState (stateOf (stateByte f r))
+
+-- the code asks it of the state that it has read
+pub state-read : (f : List ℕ) (r b : ℕ) (state : ByteState) → b ≡ stateByte f r → stateNamed state ≡ stateOf b → stateAt f r ≡ isState (stateNamed state)
+unfolding stateAt
+state-read f r b state e h = ap (λ (x : ℕ). isState (stateOf x)) (sym e) ∙ ap isState (sym h)
+
+pub states-start : (f : List ℕ) (s : Sizes) → s ≡ sizesOf f → statesMet f ≡ all (stateAt f) (range 0 (s .m - 0))
+unfolding statesMet stateAt
+states-start f s same = all-range-start (stateAt f) (sizesOf f .m) ∙ ap (λ (t : Sizes). all (stateAt f) (range 0 (t .m - 0))) (sym same)
 
 -- Open, check after check: what the checks behind the first k come to
 

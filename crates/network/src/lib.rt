@@ -4,9 +4,10 @@ ghost use mathlib.Core.Path.{_≡_};
 ghost use mathlib.Core.List.{[]};
 ghost use Prim.Native.Nat.{_+_, _*_, _<_, _≤_};
 ghost use Rattle.costs.specs.Costs.{costAt};
+ghost use Rattle.costs.specs.Layouts.{isBarred, isMust};
 ghost use Rattle.costs.specs.Network.{rowAt};
-ghost use Rattle.network.specs.Answers.{kindIn, openedOf, rowWith, sizesIn};
-ghost use Rattle.network_file.specs.File.{bodyMet, costsMet, costsSound, endsMet, endsSound, kindOf, kindsMet, lengthMet, networkOf, openIf, openOf, rowIn, sizesMet, sizesOf, u16At, u32At, versionMet, within};
+ghost use Rattle.network.specs.Answers.{kindIn, openedOf, rowWith, sizesIn, stateIn, stateNamed};
+ghost use Rattle.network_file.specs.File.{bodyMet, costsMet, costsSound, endsMet, endsSound, kindOf, kindsMet, lengthMet, networkOf, openIf, openOf, rowBytes, rowIn, rowStart, sizesMet, sizesOf, stateByte, stateOf, stateOr, stateWidth, statesMet, u16At, u32At, versionMet, within};
 
 /// The nodes, the rows and the criteria of a network file.
 pub struct Header {
@@ -29,11 +30,25 @@ pub enum ByteKind {
     Unknown,
 }
 
-/// A row of the network without its costs: its two ends and its street.
+/// Whether a row may be dug, must be, or may not.
+pub enum State {
+    Open,
+    Must,
+    Barred,
+}
+
+/// The state that a byte of the file names.
+pub enum ByteState {
+    Known(State),
+    Unknown,
+}
+
+/// A row of the network without its costs: its two ends, its street and its state.
 pub struct Row {
     pub first: u8,
     pub second: u8,
     pub street: u16,
+    pub state: State,
 }
 
 fn u16_of(high: u8, low: u8) -> u16
@@ -52,6 +67,10 @@ fn u16_at(file: &[u8], at: usize) -> u16
     requires { ⌜ at ≤ 1000000000 ⌝ }
     ensures { λ r. ⌜ r ≡ u16At (now (file .entry)) at ⌝ }
 {
+    // where both bytes are there one test does
+    if at + 2 <= file.len() {
+        return u16_of(file[at], file[at + 1]);
+    }
     u16_of(slices::byte_at(file, at), slices::byte_at(file, at + 1))
 }
 
@@ -85,26 +104,122 @@ pub fn kind_of(byte: u8) -> ByteKind
     }
 }
 
-/// The ends and the street of a row; all 0 where the file has no such row.
+/// The state that a byte names.
+pub fn state_of(byte: u8) -> ByteState
+    ensures { λ r. ⌜ stateNamed r ≡ stateOf byte ⌝ }
+{
+    match byte {
+        0 => ByteState::Known(State::Open),
+        1 => ByteState::Known(State::Must),
+        2 => ByteState::Known(State::Barred),
+        3..=255 => ByteState::Unknown,
+    }
+}
+
+// The state that was named; open where none was.
+fn state_or_open(named: ByteState) -> State
+    ensures { λ r. ⌜ stateIn r ≡ stateOr (stateNamed named) ⌝ }
+{
+    match named {
+        ByteState::Known(state) => state,
+        ByteState::Unknown => State::Open,
+    }
+}
+
+/// Whether a row of this state must be dug.
+pub fn is_must(state: State) -> bool
+    ensures { λ r. ⌜ r ≡ isMust (stateIn state) ⌝ }
+{
+    match state {
+        State::Open => false,
+        State::Must => true,
+        State::Barred => false,
+    }
+}
+
+/// Whether a row of this state may not be dug.
+pub fn is_barred(state: State) -> bool
+    ensures { λ r. ⌜ r ≡ isBarred (stateIn state) ⌝ }
+{
+    match state {
+        State::Open => false,
+        State::Must => false,
+        State::Barred => true,
+    }
+}
+
+// The bytes of a row's state: one in version 2, none in version 1.
+fn state_width(file: &[u8]) -> usize
+    ensures { λ r. ⌜ r ≡ stateWidth (now (file .entry)) ⌝ }
+{
+    if slices::byte_at(file, 0) == 2 { 1 } else { 0 }
+}
+
+// The bytes of a row.
+fn row_bytes(file: &[u8]) -> usize
+    ensures { λ r. ⌜ (r ≡ rowBytes (now (file .entry))) × (r ≤ 1025) ⌝ }
+{
+    let k = slices::byte_at(file, 8) as usize;
+    4 + state_width(file) + 4 * k
+}
+
+// Where a row begins.
+fn row_start(file: &[u8], row: usize) -> usize
+    requires { ⌜ row < 65536 ⌝ }
+    ensures { λ r. ⌜ (r ≡ rowStart (now (file .entry)) row) × (r ≤ 100000000) ⌝ }
+{
+    let k = slices::byte_at(file, 8) as usize;
+    9 + k + row * row_bytes(file)
+}
+
+// The state byte of a row; a row of version 1 is open.
+fn state_byte(file: &[u8], row: usize) -> u8
+    requires { ⌜ row < 65536 ⌝ }
+    ensures { λ r. ⌜ r ≡ stateByte (now (file .entry)) row ⌝ }
+{
+    let version = slices::byte_at(file, 0);
+    if version == 2 {
+        slices::byte_at(file, row_start(file, row) + 4)
+    } else {
+        0
+    }
+}
+
+/// The ends, the street and the state of a row; all 0 and open where the file has no such row.
 pub fn row_at(file: &[u8], row: usize) -> Row
     ensures { λ r. ⌜ rowWith r (rowAt (networkOf (now (file .entry))) row .costs) ≡ rowAt (networkOf (now (file .entry))) row ⌝ }
 {
     let h = header_of(file);
     let m = h.m as usize;
-    let k = h.k as usize;
     if row < m {
-        let at = 9 + k + row * (4 + 4 * k);
+        let at = row_start(file, row);
+        let state = state_or_open(state_of(state_byte(file, row)));
         Row {
             first: slices::byte_at(file, at),
             second: slices::byte_at(file, at + 1),
             street: u16_at(file, at + 2),
+            state: state,
         }
     } else {
         Row {
             first: 0,
             second: 0,
             street: 0,
+            state: State::Open,
         }
+    }
+}
+
+/// The street of a row; 0 where the file has no such row.
+pub fn street_at(file: &[u8], row: usize) -> u16
+    ensures { λ r. ⌜ r ≡ rowAt (networkOf (now (file .entry))) row .street ⌝ }
+{
+    let h = header_of(file);
+    let m = h.m as usize;
+    if row < m {
+        u16_at(file, row_start(file, row) + 2)
+    } else {
+        0
     }
 }
 
@@ -117,8 +232,8 @@ pub fn cost_at(file: &[u8], criterion: usize, row: usize) -> u32
     let k = h.k as usize;
     if row < m {
         if criterion < k {
-            let at = 9 + k + row * (4 + 4 * k);
-            return u32_at(file, at + 4 + 4 * criterion);
+            let at = row_start(file, row) + 4 + state_width(file);
+            return u32_at(file, at + 4 * criterion);
         }
     }
     0
@@ -128,7 +243,8 @@ fn version_met(file: &[u8]) -> bool
     ensures { λ r. ⌜ r ≡ versionMet (now (file .entry)) ⌝ }
 {
     if 0 < file.len() {
-        slices::byte_at(file, 0) == 1
+        let version = slices::byte_at(file, 0);
+        if version == 1 { true } else { version == 2 }
     } else {
         false
     }
@@ -171,7 +287,7 @@ fn body_met(file: &[u8]) -> bool
     let h = header_of(file);
     let m = h.m as usize;
     let k = h.k as usize;
-    u32_at(file, 1) as usize == 4 + k + m * (4 + 4 * k)
+    u32_at(file, 1) as usize == 4 + k + m * row_bytes(file)
 }
 
 fn kinds_met(file: &[u8]) -> bool
@@ -251,6 +367,22 @@ fn costs_met(file: &[u8]) -> bool
     true
 }
 
+fn states_met(file: &[u8]) -> bool
+    ensures { λ r. ⌜ r ≡ statesMet (now (file .entry)) ⌝ }
+{
+    let h = header_of(file);
+    let m = h.m as usize;
+    let mut r: usize = 0;
+    while r < m {
+        let state = state_of(state_byte(file, r));
+        if let ByteState::Unknown = state {
+            return false;
+        }
+        r += 1;
+    }
+    true
+}
+
 fn answer_if(file: &[u8], number: u8, met: bool) -> Opened
     ensures { λ r. ⌜ openedOf r ≡ openIf number met (now (file .entry)) ⌝ }
 {
@@ -261,7 +393,7 @@ fn answer_if(file: &[u8], number: u8, met: bool) -> Opened
     }
 }
 
-// Check 1: not empty, and version 1.
+// Check 1: not empty, and version 1 or 2.
 fn check_version(file: &[u8]) -> Opened
     ensures { λ r. ⌜ openedOf r ≡ openIf 1 (versionMet (now (file .entry))) (now (file .entry)) ⌝ }
 {
@@ -310,7 +442,14 @@ fn check_costs(file: &[u8]) -> Opened
     answer_if(file, 7, costs_met(file))
 }
 
-/// Open: the sizes of a network file that meets all seven checks, else the number of the first that it does not meet.
+// Check 14: each state byte names a state.
+fn check_states(file: &[u8]) -> Opened
+    ensures { λ r. ⌜ openedOf r ≡ openIf 14 (statesMet (now (file .entry))) (now (file .entry)) ⌝ }
+{
+    answer_if(file, 14, states_met(file))
+}
+
+/// Open: the sizes of a network file that meets all checks, else the number of the first that it does not meet.
 pub fn open(file: &[u8]) -> Opened
     ensures { λ r. ⌜ openedOf r ≡ openOf (now (file .entry)) ⌝ }
 {
@@ -338,5 +477,9 @@ pub fn open(file: &[u8]) -> Opened
     let Opened::Header(_) = a6 else {
         return a6;
     };
-    check_costs(file)
+    let a7 = check_costs(file);
+    let Opened::Header(_) = a7 else {
+        return a7;
+    };
+    check_states(file)
 }

@@ -1,6 +1,7 @@
--- What a file that meets all seven checks is (`accepted`): the limits of its sizes, its length, its kinds, ends and costs.
--- The longest accepted file has 5,133 bytes (`longest`).
+-- What a file that meets all checks is (`accepted`): the limits of its sizes, its length, its kinds, ends and costs.
+-- The longest accepted file has 5,389 bytes (`longest`).
 use mathlib.Core.Path.{_∙_, _≡_, ap, refl, subst}
+use mathlib.Core.Logic.{_⊎_, inl, inr, ⊎-elim}
 use mathlib.Core.Bool.{not}
 use mathlib.Core.Option.{Option, none, some}
 use mathlib.Core.List.{List, [], _∷_, List·Memᴰ·head as here, List·Memᴰ·tail as there, Memᴰ·map as map-in}
@@ -8,17 +9,17 @@ use Prim.Native.Nat.{_*_, _+_, _-_, _<_, _≤_, suc, zero, ℕ}
 use native.Mathlib.Decide.{decLt}
 use native.Mathlib.Nat.{mul-le-mul}
 use native.Mathlib.Omega.{arith}
-use lib.Dec.{T, T-not, eqb, eqb-refl, eqb→eq, leb, leb→le}
+use lib.Dec.{T, T-not, eqb, eqb-refl, eqb→eq, leb, leb→le, ltb}
 use lib.ListN.{getD, length, length-map}
-use Rattle.lists.specs.Lists.{all, both, range}
+use Rattle.lists.specs.Lists.{all, both, either, range}
 use Rattle.lists.proofs.Members.{_∈_, all-out, range-in}
 use Rattle.lists.proofs.Ranges.{getD-map-past, getD-map-range, range-length}
-use Rattle.lists.proofs.Tests.{T-both, T-true}
+use Rattle.lists.proofs.Tests.{T-both, T-either, T-true, pick-elim}
 use Rattle.checks.specs.Checks.{Check, firstUnmet}
 use Rattle.checks.proofs.Checks.{met-all}
 use Rattle.costs.specs.Costs.{costAt}
-use Rattle.costs.specs.Network.{Kind, Row, noRow, rowAt}
-use Rattle.network_file.specs.File.{bodyMet, byteAt, consKind, costsMet, costsSound, endsMet, endsSound, fileChecks, isKind, kindBytes, kindOf, kindsMet, kindsOf, lengthField, lengthMet, networkOf, rowBytes, rowIn, sizesMet, sizesOf, within}
+use Rattle.costs.specs.Network.{Kind, Row, noRow, «open», rowAt}
+use Rattle.network_file.specs.File.{bodyMet, byteAt, consKind, costsMet, costsSound, endsMet, endsSound, fileChecks, isKind, isState, kindBytes, kindOf, kindsMet, kindsOf, lengthField, lengthMet, networkOf, rowBytes, rowIn, rowStart, sizesMet, sizesOf, stateByte, stateOf, stateOr, stateWidth, statesMet, version, versionMet, within}
 
 -- both ends of a row are nodes, and they differ
 pub record EndsIn (n : ℕ) (row : Row) : Type 0 where
@@ -39,6 +40,21 @@ pub record Accepted (f : List ℕ) : Type 0 where
   pub rows : length (networkOf f .rows) ≡ sizesOf f .m
   pub ends : (r : ℕ) → r < sizesOf f .m → EndsIn (sizesOf f .n) (rowIn f r)
   pub costs : (c r : ℕ) → costAt (networkOf f) c r ≤ 1000000
+  pub known : (version f ≡ 1) ⊎ (version f ≡ 2)
+  pub states : (r : ℕ) → r < sizesOf f .m → T (isState (stateOf (stateByte f r)))
+
+pub state-width : (f : List ℕ) → stateWidth f ≤ 1
+unfolding stateWidth
+state-width f = pick-elim (λ (x : ℕ). x ≤ 1) (eqb (version f) 2) (λ t. omega arith) (λ t. omega arith)
+
+-- the rows of a file of version 1 are open
+pub version-1 : (f : List ℕ) → version f ≡ 1 → (stateWidth f ≡ 0) × ((r : ℕ) → rowIn f r .state ≡ «open»)
+unfolding stateWidth rowIn stateByte stateOf
+version-1 f e = (rw e, λ r. rw e)
+
+pub version-2 : (f : List ℕ) → version f ≡ 2 → (stateWidth f ≡ 1) × ((r : ℕ) → rowIn f r .state ≡ stateOr (stateOf (byteAt f (rowStart f r + 4))))
+unfolding stateWidth rowIn stateByte
+version-2 f e = (rw e, λ r. rw e)
 
 -- The rows of the network of a file
 
@@ -98,7 +114,7 @@ module _ (f : List ℕ) (h : firstUnmet (fileChecks f) ≡ none) where
   met c m = T-true (c .met) .1 (met-all (fileChecks f) .0 h c m)
 
   pub accepted : Accepted f
-  unfolding fileChecks lengthMet sizesMet bodyMet kindsMet endsMet costsMet networkOf
+  unfolding fileChecks versionMet lengthMet sizesMet bodyMet kindsMet endsMet costsMet statesMet networkOf
   accepted =
       let n = sizesOf f .n in
       let m = sizesOf f .m in
@@ -111,6 +127,8 @@ module _ (f : List ℕ) (h : firstUnmet (fileChecks f) ≡ none) where
       let atLeast = leb→le 9 (length f) nine in
       let kindly = met (record { number = 5; met = kindsMet f }) (there (there (there (there (here refl))))) in
       let ended = met (record { number = 6; met = endsMet f }) (there (there (there (there (there (here refl)))))) in
+      let (some-bytes, versions) = T-both (ltb 0 (length f)) (either (eqb (version f) 1) (eqb (version f) 2)) .0 (met (record { number = 1; met = versionMet f }) (here refl)) in
+      let stated = met (record { number = 14; met = statesMet f }) (there (there (there (there (there (there (there (here refl)))))))) in
       let costly = met (record { number = 7; met = costsMet f }) (there (there (there (there (there (there (here refl))))))) in
       record {
         nodes-low = within-out 2 32 n inN .0;
@@ -126,11 +144,13 @@ module _ (f : List ℕ) (h : firstUnmet (fileChecks f) ≡ none) where
           | yes l ↦ rw (row-in f r l) (sound-cost (rowIn f r .costs) c (all-out costsSound costly (map-in (rowIn f) (range-in 0 m r (omega arith) (omega arith)))))
           | no l ↦ omega (arith, past-costs f c r (omega arith))
         ];
+        known = ⊎-elim (λ t. inl (eqb→eq (version f) 1 t)) (λ t. inr (eqb→eq (version f) 2 t)) (T-either (eqb (version f) 1) (eqb (version f) 2) .0 versions);
+        states = λ r l. all-out (λ r. isState (stateOf (stateByte f r))) stated (range-in 0 m r (omega arith) (omega arith));
       }
 
--- The longest accepted file has 5,133 bytes.
-pub longest : (f : List ℕ) → Accepted f → length f ≤ 5133
+-- The longest accepted file has 5,389 bytes.
+pub longest : (f : List ℕ) → Accepted f → length f ≤ 5389
 longest f a =
-    let narrow : rowBytes f ≤ 20 = omega (arith, a .criteria-high) in
-    let body : sizesOf f .m * rowBytes f ≤ 256 * 20 = mul-le-mul (a .rows-high) narrow in
+    let narrow : rowBytes f ≤ 21 = omega (arith, a .criteria-high, state-width f) in
+    let body : sizesOf f .m * rowBytes f ≤ 256 * 21 = mul-le-mul (a .rows-high) narrow in
     omega (arith, a .long, a .criteria-high)

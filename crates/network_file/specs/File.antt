@@ -1,5 +1,5 @@
--- The network file, and Open (document 01). A byte past the end of the file reads as 0: the checks before it keep that out.
-use mathlib.Core.Bool.{Bool, _&&_, false, not, true}
+-- The network file, and Open (document 01, and document 02 #102 for version 2 with a state for each row). A byte past the end of the file reads as 0: the checks before it keep that out.
+use mathlib.Core.Bool.{Bool, _&&_, _||_, false, not, true}
 use mathlib.Core.Option.{Option, none, some}
 use mathlib.Core.List.{List, [], _∷_, map}
 use Prim.Native.Nat.{_*_, _+_, _-_, ℕ}
@@ -7,7 +7,7 @@ use lib.Dec.{eqb, leb, ltb}
 use lib.ListN.{getD, length}
 use Rattle.lists.specs.Lists.{all, pick, range}
 use Rattle.checks.specs.Checks.{Check, Outcome, checked}
-use Rattle.costs.specs.Network.{Kind, Network, Row, added, closing, worst}
+use Rattle.costs.specs.Network.{Kind, Network, Row, State, added, barred, closing, must, «open», worst}
 
 -- Numbers of one, two and four bytes, big-endian
 
@@ -61,20 +61,42 @@ unfolding kindOf
 kindsOf [] = []
 kindsOf (b ∷ bs) = consKind (kindOf b) (kindsOf bs)
 
+-- the bytes of a row's state: one in version 2, none in version 1
+unfoldable pub stateWidth : List ℕ → ℕ
+stateWidth f = pick (eqb (version f) 2) 1 0
+
 -- the bytes of a row, and where row r begins
 abbrev pub rowBytes : List ℕ → ℕ
-rowBytes f = 4 + 4 * sizesOf f .k
+rowBytes f = 4 + stateWidth f + 4 * sizesOf f .k
 
 abbrev pub rowStart : List ℕ → ℕ → ℕ
 rowStart f r = 9 + sizesOf f .k + r * rowBytes f
 
+-- the state that a byte names; above 2 there is none
+unfoldable pub stateOf : ℕ → Option State
+stateOf b = pick (eqb b 0) (some «open») (pick (eqb b 1) (some must) (pick (eqb b 2) (some barred) none))
+
+abbrev pub isState : Option State → Bool
+isState none = false
+isState (some state) = true
+
+-- asked only after check 14, where the byte names a state
+abbrev pub stateOr : Option State → State
+stateOr none = «open»
+stateOr (some state) = state
+
+-- the state byte of row r; a row of version 1 is open
+unfoldable pub stateByte : List ℕ → ℕ → ℕ
+stateByte f r = pick (eqb (version f) 2) (byteAt f (rowStart f r + 4)) 0
+
 unfoldable pub rowIn : List ℕ → ℕ → Row
-unfolding range u16At u32At
+unfolding range u16At u32At stateWidth stateOf stateByte
 rowIn f r = record {
   firstEnd = byteAt f (rowStart f r);
   secondEnd = byteAt f (rowStart f r + 1);
   street = u16At f (rowStart f r + 2);
-  costs = map (λ c. u32At f (rowStart f r + 4 + 4 * c)) (range 0 (sizesOf f .k));
+  state = stateOr (stateOf (stateByte f r));
+  costs = map (λ c. u32At f (rowStart f r + 4 + stateWidth f + 4 * c)) (range 0 (sizesOf f .k));
 }
 
 -- The network of a file.
@@ -92,7 +114,7 @@ abbrev pub within : ℕ → ℕ → ℕ → Bool
 within low high x = leb low x && leb x high
 
 unfoldable pub versionMet : List ℕ → Bool
-versionMet f = ltb 0 (length f) && eqb (version f) 1
+versionMet f = ltb 0 (length f) && (eqb (version f) 1 || eqb (version f) 2)
 
 unfoldable pub lengthMet : List ℕ → Bool
 unfolding u32At
@@ -103,7 +125,7 @@ unfolding u16At
 sizesMet f = within 2 32 (sizesOf f .n) && (within 0 256 (sizesOf f .m) && within 1 4 (sizesOf f .k))
 
 unfoldable pub bodyMet : List ℕ → Bool
-unfolding u16At u32At
+unfolding u16At u32At stateWidth
 bodyMet f = eqb (lengthField f) (4 + sizesOf f .k + sizesOf f .m * rowBytes f)
 
 unfoldable pub kindsMet : List ℕ → Bool
@@ -125,8 +147,12 @@ unfoldable pub costsMet : List ℕ → Bool
 unfolding all networkOf
 costsMet f = all costsSound (networkOf f .rows)
 
+unfoldable pub statesMet : List ℕ → Bool
+unfolding all range stateOf stateByte
+statesMet f = all (λ r. isState (stateOf (stateByte f r))) (range 0 (sizesOf f .m))
+
 unfoldable pub fileChecks : List ℕ → List Check
-unfolding versionMet lengthMet sizesMet bodyMet kindsMet endsMet costsMet
+unfolding versionMet lengthMet sizesMet bodyMet kindsMet endsMet costsMet statesMet
 fileChecks f =
     record { number = 1; met = versionMet f }
     ∷ record { number = 2; met = lengthMet f }
@@ -135,6 +161,7 @@ fileChecks f =
     ∷ record { number = 5; met = kindsMet f }
     ∷ record { number = 6; met = endsMet f }
     ∷ record { number = 7; met = costsMet f }
+    ∷ record { number = 14; met = statesMet f }
     ∷ []
 
 -- one of the checks by itself

@@ -6,10 +6,12 @@ use native.Mathlib.Omega.{arith}
 use lib.ListN.{length}
 use Rattle.lists.proofs.Ranges.{range-length}
 use Rattle.graph.proofs.Minimal.{WellFormed}
+use Rattle.graph.proofs.Parts.{Part}
+use Rattle.costs.proofs.Layouts.{layouts-listed, layouts-part, open-formed}
 use Rattle.costs.proofs.Networks.{network-formed}
 use Rattle.network_file.specs.File.{networkOf, sizesOf}
 use Rattle.network_file.proofs.Accepted.{Accepted}
-use Rattle.operations.specs.Operations.{graphIn}
+use Rattle.operations.specs.Operations.{graphIn, layoutsIn, openIn}
 
 pub node-count : (f : List ℕ) → length (graphIn f .nodes) ≡ sizesOf f .n
 unfolding networkOf
@@ -19,6 +21,17 @@ module _ (f : List ℕ) (a : Accepted f) where
   pub formed : WellFormed (graphIn f)
   unfolding networkOf
   formed = network-formed (networkOf f) (omega (arith, a .nodes-low))
+
+  -- and so is the graph without the barred rows
+  pub open-formed-in : WellFormed (openIn f)
+  open-formed-in = open-formed (networkOf f) formed
+
+  -- the network's trees are a part of the list of either graph, in its order
+  pub layouts-in : Part (graphIn f) (layoutsIn f)
+  layouts-in = layouts-part (networkOf f)
+
+  pub layouts-open-in : Part (openIn f) (layoutsIn f)
+  layouts-open-in = layouts-listed (networkOf f) formed
 
   -- there is a node besides the plant
   pub several : 1 < length (graphIn f .nodes)

@@ -2,4 +2,5 @@ pub mod Files
 pub mod Over
 pub mod Costs
 pub mod Runs
+pub mod Exists
 pub mod Passing

@@ -15,14 +15,17 @@ use Rattle.lists.proofs.Distinct.{Distinct}
 use Rattle.lists.proofs.Members.{_∈_}
 use Rattle.lists.proofs.Tests.{T-true}
 use Rattle.graph.specs.Graph.{Graph, isTree, width}
-use Rattle.graph.specs.Paths.{isMinimal, trees}
+use Rattle.graph.specs.Paths.{isMinimal}
 use Rattle.graph.proofs.Minimal.{WellFormed}
+use Rattle.graph.proofs.Parts.{part-distinct}
 use Rattle.graph.proofs.Tree.{tree-out}
-use Rattle.graph.proofs.Trees.{trees-distinct, trees-minimal}
 use Rattle.checks.specs.Checks.{Check, answered, firstUnmet}
 use Rattle.checks.proofs.Checks.{met-all}
 use Rattle.checks.proofs.Ended.{ended-answered, unmet-parts}
 use Rattle.costs.specs.Costs.{costOf}
+use Rattle.costs.specs.Layouts.{keepsStates, layouts}
+use Rattle.costs.specs.Network.{Network, graphOf}
+use Rattle.costs.proofs.Layouts.{layouts-mem, layouts-part}
 use Rattle.forests.proofs.Forest.{Forest}
 use Rattle.forests.proofs.Spanning.{tree-forest}
 use Rattle.bounds.proofs.Limits.{costs-most}
@@ -30,7 +33,7 @@ use Rattle.network_file.specs.File.{fileChecks, networkOf}
 use Rattle.network_file.proofs.Accepted.{Accepted, accepted}
 use Rattle.pages.specs.Pages.{behind, lastOf, pageCount, restAfter}
 use Rattle.pages.proofs.Pages.{behind-drop}
-use Rattle.operations.specs.Operations.{Paged, check, drawnChecks, graphIn, pageCall, pageChecks, someTree, startChecks}
+use Rattle.operations.specs.Operations.{Paged, check, drawnChecks, graphIn, layoutsIn, pageCall, pageChecks, someTree, startChecks, treeChecks}
 use Rattle.operations.proofs.Files.{formed, node-count, several}
 
 -- A spanning tree has no cycle: its rows are a forest.
@@ -63,40 +66,46 @@ none-left w page (p ∷ rest) wide room z =
     let one : 1 ≤ length page / w = le-div-iff-mul-le {k = w} {x = 1} {y = length page} wide .1 (omega arith) in absurd (omega arith)
 
 -- the start of a call that is met is empty or a tree of the list
-start-listed : (g : Graph) → WellFormed g → (r : ℕ) (rs : List ℕ) → firstUnmet (startChecks g (r ∷ rs)) ≡ none → (r ∷ rs) ∈ trees g
-unfolding startChecks drawnChecks
-start-listed g wf r rs h =
-    trees-minimal g wf (r ∷ rs) .1
-    (T-true _ .1 (met-all (startChecks g (r ∷ rs)) .0 h (check 13 (isMinimal g (r ∷ rs))) (there (there (there (here refl))))))
+start-listed : (w : Network) → WellFormed (graphOf w) → (r : ℕ) (rs : List ℕ) → firstUnmet (startChecks w (r ∷ rs)) ≡ none → (r ∷ rs) ∈ layouts w
+unfolding startChecks drawnChecks treeChecks
+start-listed w wf r rs h =
+    let met = met-all (startChecks w (r ∷ rs)) .0 h in
+    layouts-mem w wf (r ∷ rs) .1 (
+      T-true _ .1 (met (check 13 (isMinimal (graphOf w) (r ∷ rs))) (there (there (there (there (here refl)))))),
+      T-true _ .1 (met (check 15 (keepsStates w (r ∷ rs))) (there (there (there (here refl))))),
+    )
 
 module _ (f page : List ℕ) where
   abbrev g : Graph
   g = graphIn f
 
+  abbrev L : List (List ℕ)
+  L = layoutsIn f
+
   abbrev behindFile : List ℕ → List Check
-  behindFile start = check 12 (someTree (trees g)) ∷ check 11 (leb (width g) (length page)) ∷ startChecks g start
+  behindFile start = check 12 (someTree L) ∷ check 11 (leb (width g) (length page)) ∷ startChecks (networkOf f) start
 
   zero-from : (start : List ℕ) → firstUnmet (fileChecks f) ≡ none → firstUnmet (behindFile start) ≡ none
-      → pageCount (width g) page (restAfter (trees g) start) ≡ 0 → (lastOf (trees g) ≡ start) × (start ∈ trees g)
+      → pageCount (width g) page (restAfter L start) ≡ 0 → (lastOf L ≡ start) × (start ∈ L)
   zero-from start ok h z =
       let a = accepted f ok in
       let met = met-all (behindFile start) .0 h in
       let room = leb-true (width g) (length page) (met (check 11 (leb (width g) (length page))) (there (here refl))) in
       let wide : 0 < pred (length (graphIn f .nodes)) = omega (arith, several f a) in
-      go start (λ c m. met c (there (there m))) (none-left (width g) page (restAfter (trees g) start) wide room z)
+      go start (λ c m. met c (there (there m))) (none-left (width g) page (restAfter L start) wide room z)
     where
-      tree : T (someTree (trees g))
-      tree = T-true _ .1 (met-all (behindFile start) .0 h (check 12 (someTree (trees g))) (here refl))
+      tree : T (someTree L)
+      tree = T-true _ .1 (met-all (behindFile start) .0 h (check 12 (someTree L)) (here refl))
 
-      go : (start : List ℕ) → ((c : Check) → c ∈ startChecks g start → c .met ≡ true) → restAfter (trees g) start ≡ [] → (lastOf (trees g) ≡ start) × (start ∈ trees g)
+      go : (start : List ℕ) → ((c : Check) → c ∈ startChecks (networkOf f) start → c .met ≡ true) → restAfter L start ≡ [] → (lastOf L ≡ start) × (start ∈ L)
       go [] met e = absurd (subst (λ (l : List (List ℕ)). T (someTree l)) e tree)
       go (r ∷ rs) met e =
-          let m = start-listed g (formed f (accepted f ok)) r rs (met-all (startChecks g (r ∷ rs)) .1 met) in
-          (none-behind (trees g) (r ∷ rs) (trees-distinct g) m e, m)
+          let m = start-listed (networkOf f) (formed f (accepted f ok)) r rs (met-all (startChecks (networkOf f) (r ∷ rs)) .1 met) in
+          (none-behind L (r ∷ rs) (part-distinct (layouts-part (networkOf f))) m e, m)
 
   -- Count 0 comes only where the start is the list's last tree.
   pub count-zero : (start : List ℕ) (x : Paged) → pageCall f page start .outcome ≡ answered x → x .count ≡ 0
-      → (lastOf (trees (graphIn f)) ≡ start) × (start ∈ trees (graphIn f))
+      → (lastOf (layoutsIn f) ≡ start) × (start ∈ layoutsIn f)
   unfolding pageCall pageChecks
   count-zero start x e z =
       let (met, same) = ended-answered (pageChecks f page start) _ page _ x e in

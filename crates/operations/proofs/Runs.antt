@@ -15,42 +15,44 @@ use Rattle.lists.specs.Lists.{all, pick, sum}
 use Rattle.lists.proofs.Ascending.{at-mem}
 use Rattle.lists.proofs.Members.{_∈_, all-in}
 use Rattle.lists.proofs.Tests.{T-true}
-use Rattle.graph.specs.Graph.{Graph, isTree, width}
-use Rattle.graph.specs.Paths.{isMinimal, trees}
+use Rattle.graph.specs.Graph.{isTree, width}
+use Rattle.graph.specs.Paths.{isMinimal}
 use Rattle.graph.proofs.Minimal.{WellFormed}
-use Rattle.graph.proofs.Tree.{minimal-tree}
-use Rattle.graph.proofs.Trees.{trees-distinct, trees-length, trees-mem}
+use Rattle.graph.proofs.Parts.{part-distinct, part-length}
+use Rattle.graph.proofs.Tree.{minimal-tree, tree-out}
 use Rattle.checks.specs.Checks.{Ended, Outcome, answered, firstUnmet, refused}
 use Rattle.checks.proofs.Checks.{firstUnmet-append, firstUnmet-met, firstUnmet-unmet}
 use Rattle.checks.proofs.Ended.{ended-met, ended-unmet}
-use Rattle.network_file.specs.File.{fileChecks}
+use Rattle.costs.specs.Layouts.{keepsStates, layouts}
+use Rattle.costs.specs.Network.{Network, graphOf}
+use Rattle.costs.proofs.Layouts.{layouts-mem, layouts-part}
+use Rattle.network_file.specs.File.{fileChecks, networkOf}
 use Rattle.network_file.proofs.Accepted.{accepted}
 use Rattle.pages.specs.Pages.{Answer, answer, call, lastOf, markOf, readBack, restAfter, room}
 use Rattle.pages.proofs.Pages.{lastOf-at, markFor, markFor-right, step}
-use Rattle.operations.specs.Operations.{Paged, check, drawnChecks, graphIn, pageCall, pageChecks, someTree, startChecks}
+use Rattle.operations.specs.Operations.{Paged, check, drawnChecks, graphIn, layoutsIn, pageCall, pageChecks, someTree, startChecks, treeChecks}
 use Rattle.operations.specs.Runs.{Call, adds, runFrom, runOf}
 use Rattle.operations.proofs.Files.{formed, several}
 
 -- A tree of the list as a start
 
 -- it passes the checks of a start
-pub listed-passes : (g : Graph) → WellFormed g → (p : List ℕ) → p ∈ trees g → firstUnmet (startChecks g p) ≡ none
-unfolding startChecks drawnChecks firstUnmet
-listed-passes g wf [] m = refl
-listed-passes g wf (r ∷ rs) m =
-    let (t, rows) = trees-mem g (r ∷ rs) .0 m in
-    let long : eqb (length (r ∷ rs)) (width g) ≡ true = eq-eqb _ _ (trees-length g (r ∷ rs) m) in
-    let known : all (λ r. ltb r (length (g .firstEnds))) (r ∷ rs) ≡ true =
-    T-true _ .0 (all-in (λ r. ltb r (length (g .firstEnds))) (r ∷ rs) (λ q i. lt→ltb q (length (g .firstEnds)) (rows q i))) in
-    let tree : isTree g (r ∷ rs) ≡ true = T-true _ .0 (minimal-tree g wf (r ∷ rs) t) in
-    let minimal : isMinimal g (r ∷ rs) ≡ true = T-true _ .0 t in
-    rw (long, known, tree, minimal) refl
+pub listed-passes : (w : Network) → WellFormed (graphOf w) → (p : List ℕ) → p ∈ layouts w → firstUnmet (startChecks w p) ≡ none
+unfolding startChecks drawnChecks treeChecks firstUnmet
+listed-passes w wf [] m = refl
+listed-passes w wf (r ∷ rs) m =
+    let (t, keeps) = layouts-mem w wf (r ∷ rs) .0 m in
+    let tree : T (isTree (graphOf w) (r ∷ rs)) = minimal-tree (graphOf w) wf (r ∷ rs) t in
+    let long : eqb (length (r ∷ rs)) (width (graphOf w)) ≡ true = eq-eqb _ _ (part-length (layouts-part w) (r ∷ rs) m) in
+    let known : all (λ r. ltb r (length (graphOf w .firstEnds))) (r ∷ rs) ≡ true =
+    T-true _ .0 (all-in (λ r. ltb r (length (graphOf w .firstEnds))) (r ∷ rs) (λ q i. lt→ltb q (length (graphOf w .firstEnds)) (tree-out (graphOf w) (r ∷ rs) tree .rows q i))) in
+    rw (long, known, T-true (isTree (graphOf w) (r ∷ rs)) .0 tree, T-true (keepsStates w (r ∷ rs)) .0 keeps, T-true (isMinimal (graphOf w) (r ∷ rs)) .0 t) refl
 
 -- so does the last of the first k trees, or the empty start
-last-passes : (g : Graph) → WellFormed g → (k : ℕ) → k ≤ length (trees g) → firstUnmet (startChecks g (lastOf (take k (trees g)))) ≡ none
+last-passes : (w : Network) → WellFormed (graphOf w) → (k : ℕ) → k ≤ length (layouts w) → firstUnmet (startChecks w (lastOf (take k (layouts w)))) ≡ none
 unfolding startChecks firstUnmet
-last-passes g wf zero h = refl
-last-passes g wf (suc i) h = listed-passes g wf (lastOf (take (suc i) (trees g))) (at-mem (trees g) i (lastOf-at (trees g) i h))
+last-passes w wf zero h = refl
+last-passes w wf (suc i) h = listed-passes w wf (lastOf (take (suc i) (layouts w))) (at-mem (layouts w) i (lastOf-at (layouts w) i h))
 
 -- A call of the run is one of crate pages, which refuses a short page alone
 
@@ -74,9 +76,9 @@ Right n (answered a) upTo = T (a .more) ↔ (upTo < n)
 
 -- document 01's S is the length of the list, w the length of what is written, and f the room of the pages
 pub record Claim (f : List ℕ) (pages : List (List ℕ)) : Type 0 where
-  pub written : runOf f pages .written ≡ take (length (runOf f pages .written)) (trees (graphIn f))
-  pub count : length (runOf f pages .written) ≡ min (length (trees (graphIn f))) (room (width (graphIn f)) pages)
-  pub calls : (c : Call) → c ∈ runOf f pages .calls → Right (length (trees (graphIn f))) (c .outcome) (c .upTo)
+  pub written : runOf f pages .written ≡ take (length (runOf f pages .written)) (layoutsIn f)
+  pub count : length (runOf f pages .written) ≡ min (length (layoutsIn f)) (room (width (graphIn f)) pages)
+  pub calls : (c : Call) → c ∈ runOf f pages .calls → Right (length (layoutsIn f)) (c .outcome) (c .upTo)
 
 adds-read : (w : ℕ) (page : List ℕ) (a : Option Answer) → adds w (outcomeIn a) (pageIn page a) ≡ readBack w a
 adds-read w page none = refl
@@ -86,30 +88,30 @@ right-mark : (b : Bool) (k n : ℕ) (now : List (List ℕ)) (a : Option Answer) 
 right-mark b k n now none e = refl
 right-mark b k n now (some a) e = markFor-right b k n (record { upTo = length now; more = a .more }) e
 
-module _ (f : List ℕ) (ok : firstUnmet (fileChecks f) ≡ none) (tree : T (someTree (trees (graphIn f)))) where
-  abbrev g : Graph
-  g = graphIn f
+module _ (f : List ℕ) (ok : firstUnmet (fileChecks f) ≡ none) (tree : T (someTree (layoutsIn f))) where
+  abbrev net : Network
+  net = networkOf f
 
   abbrev w : ℕ
   w = width (graphIn f)
 
   abbrev L : List (List ℕ)
-  L = trees (graphIn f)
+  L = layoutsIn f
 
   -- a short page is refused by 11, before the start is looked at
   page-short : (page start : List ℕ) → leb w (length page) ≡ false → firstUnmet (pageChecks f page start) ≡ some 11
   unfolding pageChecks
   page-short page start h =
-      firstUnmet-append (fileChecks f) (check 12 (someTree L) ∷ check 11 (leb w (length page)) ∷ startChecks g start) ok
-      ∙ firstUnmet-met (check 12 (someTree L)) (check 11 (leb w (length page)) ∷ startChecks g start) (T-true _ .0 tree)
-      ∙ firstUnmet-unmet (check 11 (leb w (length page))) (startChecks g start) h
+      firstUnmet-append (fileChecks f) (check 12 (someTree L) ∷ check 11 (leb w (length page)) ∷ startChecks net start) ok
+      ∙ firstUnmet-met (check 12 (someTree L)) (check 11 (leb w (length page)) ∷ startChecks net start) (T-true _ .0 tree)
+      ∙ firstUnmet-unmet (check 11 (leb w (length page))) (startChecks net start) h
 
-  page-long : (page start : List ℕ) → leb w (length page) ≡ true → firstUnmet (startChecks g start) ≡ none → firstUnmet (pageChecks f page start) ≡ none
+  page-long : (page start : List ℕ) → leb w (length page) ≡ true → firstUnmet (startChecks net start) ≡ none → firstUnmet (pageChecks f page start) ≡ none
   unfolding pageChecks
   page-long page start h m =
-      firstUnmet-append (fileChecks f) (check 12 (someTree L) ∷ check 11 (leb w (length page)) ∷ startChecks g start) ok
-      ∙ firstUnmet-met (check 12 (someTree L)) (check 11 (leb w (length page)) ∷ startChecks g start) (T-true _ .0 tree)
-      ∙ firstUnmet-met (check 11 (leb w (length page))) (startChecks g start) h
+      firstUnmet-append (fileChecks f) (check 12 (someTree L) ∷ check 11 (leb w (length page)) ∷ startChecks net start) ok
+      ∙ firstUnmet-met (check 12 (someTree L)) (check 11 (leb w (length page)) ∷ startChecks net start) (T-true _ .0 tree)
+      ∙ firstUnmet-met (check 11 (leb w (length page))) (startChecks net start) h
       ∙ m
 
   -- In the run Page is refused only by 11, and otherwise answers as a call of crate pages.
@@ -127,7 +129,7 @@ module _ (f : List ℕ) (ok : firstUnmet (fileChecks f) ≡ none) (tree : T (som
 
       by : (b : Bool) → leb w (length page) ≡ b → pageCall f page start ≡ callIn page (call w L start page)
       by true e =
-          ended-met (pageChecks f page start) _ page _ (page-long page start e (last-passes g (formed f (accepted f ok)) k h))
+          ended-met (pageChecks f page start) _ page _ (page-long page start e (last-passes net (formed f (accepted f ok)) k h))
           ∙ ap called (sym (le-ltb (length page) w (leb-true w (length page) e)))
       by false e =
           ended-unmet (pageChecks f page start) _ page _ 11 (page-short page start e)
@@ -149,7 +151,7 @@ module _ (f : List ℕ) (ok : firstUnmet (fileChecks f) ≡ none) (tree : T (som
   claim-from s [] = (rw add-zero refl, λ c m. absurd (mem-nil m))
   claim-from s (page ∷ pages) =
       let s′ = s + length page / w in
-      let (e, m) = step w L wide (trees-distinct g) (trees-length g) s page (ltb (length page) w) refl in
+      let (e, m) = step w L wide (part-distinct (layouts-part net)) (part-length (layouts-part net)) s page (ltb (length page) w) refl in
       let a = call w L (lastOf (upTo s)) page in
       let r : ended-at s page ≡ callIn page a = page-call (min (length L) s) (omega arith) page in
       let now : upTo s ++ adds w (ended-at s page .outcome) (ended-at s page .buffers) ≡ upTo s′ =

@@ -1,4 +1,4 @@
--- Document 01's operations but Open (crate network): each gives, for every input, its outcome and every lent buffer afterwards.
+-- Document 01's operations but Open (crate network), with document 02's row states (#102): each gives, for every input, its outcome and every lent buffer afterwards.
 -- Each has its whole table of checks, in document 01's order. A definition that says "asked only after check .." may answer
 -- anything before: the table stops at the first check that is not met.
 use mathlib.Core.Bool.{Bool, _&&_, false, true}
@@ -9,10 +9,11 @@ use lib.Dec.{eqb, leb, ltb}
 use lib.ListN.{drop, length, take}
 use Rattle.lists.specs.Lists.{all, filterB, pick, sum}
 use Rattle.graph.specs.Graph.{Graph, isTree, rowNumbers, runs, width}
-use Rattle.graph.specs.Paths.{isMinimal, pathOf, trees}
+use Rattle.graph.specs.Paths.{isMinimal, pathOf}
 use Rattle.checks.specs.Checks.{Check, Ended, Outcome, answered, checked, ended, refused}
 use Rattle.costs.specs.Costs.{costOf, front}
-use Rattle.costs.specs.Network.{graphOf}
+use Rattle.costs.specs.Layouts.{keepsStates, layouts, openGraph}
+use Rattle.costs.specs.Network.{Network, graphOf}
 use Rattle.network_file.specs.File.{fileChecks, networkOf, sizesOf, within}
 use Rattle.pages.specs.Pages.{flat, moreAfter, pageAfter, pageCount, restAfter}
 use Rattle.lists.proofs.Members.{_∈_}
@@ -20,6 +21,13 @@ use mathlib.Core.Path.{_≡_}
 
 abbrev pub graphIn : List ℕ → Graph
 graphIn f = graphOf (networkOf f)
+
+-- the graph without the barred rows, and the network's own trees: those with all must rows and no barred row
+abbrev pub openIn : List ℕ → Graph
+openIn f = openGraph (networkOf f)
+
+abbrev pub layoutsIn : List ℕ → List (List ℕ)
+layoutsIn f = layouts (networkOf f)
 
 abbrev pub check : ℕ → Bool → Check
 check number met = record { number = number; met = met }
@@ -43,17 +51,21 @@ unfoldable pub wordOf : List ℕ → ℕ
 wordOf nodes = sum (map (λ p. 2 ^ (p - 1)) nodes)
 
 unfoldable pub reachCall : List ℕ → Outcome Reached
-reachCall f = checked (fileChecks f) (record { word = wordOf (reachedNodes (graphIn f)); size = length (reachedNodes (graphIn f)) })
+reachCall f = checked (fileChecks f) (record { word = wordOf (reachedNodes (openIn f)); size = length (reachedNodes (openIn f)) })
 
 -- Order and Cost
 
--- rows that were drawn in any sequence
-unfoldable pub drawnChecks : Graph → List ℕ → List Check
-drawnChecks g rows =
+-- rows that are a spanning tree, in any sequence
+unfoldable pub treeChecks : Graph → List ℕ → List Check
+treeChecks g rows =
     check 8 (eqb (length rows) (width g))
     ∷ check 9 (all (λ r. ltb r (length (g .firstEnds))) rows)
     ∷ check 10 (isTree g rows)
     ∷ []
+
+-- rows that were drawn in any sequence: a spanning tree, in the plain sense, that keeps the rows' states
+unfoldable pub drawnChecks : Network → List ℕ → List Check
+drawnChecks w rows = treeChecks (graphOf w) rows ++ (check 15 (keepsStates w rows) ∷ [])
 
 -- asked only after check 10, where the rows have a path
 abbrev pub pathIn : Option (List ℕ) → List ℕ
@@ -61,13 +73,13 @@ pathIn none = []
 pathIn (some path) = path
 
 unfoldable pub orderChecks : List ℕ → List ℕ → List ℕ → List Check
-orderChecks f rows buffer = fileChecks f ++ drawnChecks (graphIn f) rows ++ (check 11 (leb (width (graphIn f)) (length buffer)) ∷ [])
+orderChecks f rows buffer = fileChecks f ++ drawnChecks (networkOf f) rows ++ (check 11 (leb (width (graphIn f)) (length buffer)) ∷ [])
 
 unfoldable pub orderCall : List ℕ → List ℕ → List ℕ → Ended (Unit {0}) (List ℕ)
 orderCall f rows buffer = ended (orderChecks f rows buffer) tt buffer (over (pathIn (pathOf (graphIn f) rows)) buffer)
 
 unfoldable pub costChecks : List ℕ → List ℕ → List ℕ → List Check
-costChecks f rows buffer = fileChecks f ++ drawnChecks (graphIn f) rows ++ (check 11 (leb (sizesOf f .k) (length buffer)) ∷ [])
+costChecks f rows buffer = fileChecks f ++ drawnChecks (networkOf f) rows ++ (check 11 (leb (sizesOf f .k) (length buffer)) ∷ [])
 
 unfoldable pub costCall : List ℕ → List ℕ → List ℕ → Ended (Unit {0}) (List ℕ)
 costCall f rows buffer = ended (costChecks f rows buffer) tt buffer (over (costOf (networkOf f) rows) buffer)
@@ -79,9 +91,9 @@ someTree [] = false
 someTree (p ∷ l) = true
 
 -- the path to start after; an empty one has no checks
-unfoldable pub startChecks : Graph → List ℕ → List Check
-startChecks g [] = []
-startChecks g (r ∷ rs) = drawnChecks g (r ∷ rs) ++ (check 13 (isMinimal g (r ∷ rs)) ∷ [])
+unfoldable pub startChecks : Network → List ℕ → List Check
+startChecks w [] = []
+startChecks w (r ∷ rs) = drawnChecks w (r ∷ rs) ++ (check 13 (isMinimal (graphOf w) (r ∷ rs)) ∷ [])
 
 pub record Paged : Type 0 where
   pub count : ℕ
@@ -90,13 +102,13 @@ pub record Paged : Type 0 where
 unfoldable pub pageChecks : List ℕ → List ℕ → List ℕ → List Check
 pageChecks f page start =
     fileChecks f
-    ++ (check 12 (someTree (trees (graphIn f))) ∷ check 11 (leb (width (graphIn f)) (length page)) ∷ startChecks (graphIn f) start)
+    ++ (check 12 (someTree (layoutsIn f)) ∷ check 11 (leb (width (graphIn f)) (length page)) ∷ startChecks (networkOf f) start)
 
--- the trees behind the start are asked only after checks 10 and 13
+-- the trees behind the start are asked only after checks 10, 15 and 13
 unfoldable pub pageCall : List ℕ → List ℕ → List ℕ → Ended Paged (List ℕ)
 pageCall f page start =
     let w = width (graphIn f) in
-    let rest = restAfter (trees (graphIn f)) start in
+    let rest = restAfter (layoutsIn f) start in
     ended (pageChecks f page start) (record { count = pageCount w page rest; more = moreAfter w page rest }) page (pageAfter w page rest)
 
 -- Pick: no refusal, and an empty part where n is out of range or the page ends before tree t does.
@@ -118,7 +130,7 @@ capacity f costs witnesses = min (length costs / sizesOf f .k) (length witnesses
 unfoldable pub frontChecks : List ℕ → List ℕ → List ℕ → List Check
 frontChecks f costs witnesses =
     fileChecks f
-    ++ (check 12 (someTree (trees (graphIn f)))
+    ++ (check 12 (someTree (layoutsIn f))
     ∷ check 11 (leb (sizesOf f .k) (length costs) && leb (width (graphIn f)) (length witnesses))
     ∷ [])
 
@@ -137,6 +149,6 @@ rowsFilled (answered a) = a .count
 -- The witness table afterwards, `after`: for each vector of the front that fits, a tree of the list with that vector.
 pub record Witnesses (f costs witnesses after : List ℕ) : Type 0 where
   pub paths : List (List ℕ)
-  pub listed : (p : List ℕ) → p ∈ paths → p ∈ trees (graphIn f)
+  pub listed : (p : List ℕ) → p ∈ paths → p ∈ layoutsIn f
   pub vectors : map (costOf (networkOf f)) paths ≡ take (rowsFilled (frontCall f costs witnesses .outcome)) (front (networkOf f))
   pub table : after ≡ over (flat paths) witnesses

@@ -1,9 +1,9 @@
--- Page's checks, one after the other: what the call comes to where the first is not met (`page-file`, `page-none`, `page-short`,
--- `page-start`), and where all are met (`page-met`). Of a start: its checks by the answer to its rows as drawn (`start-drawn`, `start-path`).
+-- Page's checks, one after the other: what the call comes to where the first is not met (`page-listed`, `page-short`, `page-start`), and
+-- where all are met (`page-met`). Of a start: its checks by the answer to its rows as drawn (`start-drawn`, `start-path`).
 use mathlib.Core.Path.{_∙_, _≡_, ap, refl, subst, sym}
 use mathlib.Core.Bool.{Bool, false, true}
 use mathlib.Core.Option.{Option·some-injective, none, some}
-use mathlib.Core.List.{List, [], _++_, _∷_, List·Memᴰ·head as here, List·Memᴰ·tail as there}
+use mathlib.Core.List.{List, [], _++_, _∷_, append-assoc, List·Memᴰ·head as here, List·Memᴰ·tail as there}
 use Prim.Native.Nat.{_-_, _<_, _≤_, ℕ}
 use native.Mathlib.Omega.{arith}
 use lib.Dec.{T, leb}
@@ -21,13 +21,19 @@ use Rattle.drawn.specs.declared.DrawnAnswer.{DrawnAnswer}
 use Rattle.graph.proofs.Minimal.{WellFormed}
 use Rattle.graph.proofs.PathOf.{pathOf-is, pathOf-only}
 use Rattle.graph.specs.Graph.{Graph, width}
-use Rattle.graph.specs.Paths.{isMinimal, pathOf, trees}
-use Rattle.network_file.specs.File.{fileChecks}
+use Rattle.graph.specs.Paths.{isMinimal, pathOf}
+use Rattle.costs.specs.Layouts.{keepsStates}
+use Rattle.costs.specs.Network.{Network}
+use Rattle.costs.proofs.Layouts.{layouts-mem}
+use Rattle.network_file.specs.File.{fileChecks, networkOf}
+use Rattle.network_file.proofs.Accepted.{accepted}
+use Rattle.listed.specs.Listed.{listedChecks}
 use Rattle.operations.proofs.Files.{formed}
-use Rattle.operations.specs.Operations.{check, drawnChecks, graphIn, pageCall, pageChecks, someTree, startChecks}
+use Rattle.operations.specs.Operations.{check, drawnChecks, graphIn, layoutsIn, pageCall, pageChecks, someTree, startChecks, treeChecks}
+use Rattle.pages.proofs.TreePages.{Starts}
 use Rattle.pages.specs.Pages.{restAfter}
 use Rattle.page.specs.Answers.{numbered}
-use Rattle.page.specs.Walkable.{Startable, filledBy, rowsIn}
+use Rattle.page.specs.Walkable.{filledBy, rowsIn}
 
 -- The start
 
@@ -41,77 +47,76 @@ module _ (f : List ℕ) (met : firstUnmet (fileChecks f) ≡ none) where
   abbrev g : Graph
   g = graphIn f
 
-  start-all : (start : List ℕ) → ¬ (length start ≡ 0) → startChecks g start ≡ drawnChecks g start ++ (check 13 (isMinimal g start) ∷ [])
+  abbrev w : Network
+  w = networkOf f
+
+  start-all : (start : List ℕ) → ¬ (length start ≡ 0) → startChecks w start ≡ drawnChecks w start ++ (check 13 (isMinimal g start) ∷ [])
   unfolding startChecks
   start-all [] n = absurd (n refl)
   start-all (r ∷ rs) n = refl
 
-  -- 8, 9 and 10, by the answer d to its rows as drawn; then 13
+  -- 8, 9, 10 and 15, by the answer d to its rows as drawn; then 13
   module _ (start : List ℕ) (d : DrawnAnswer) (asked : drawnOf d ≡ drawnCall f start) where
-    pub start-drawn : ¬ (length start ≡ 0) → ¬ (d .number ≡ 0) → firstUnmet (startChecks g start) ≡ numbered (d .number)
+    pub start-drawn : ¬ (length start ≡ 0) → ¬ (d .number ≡ 0) → firstUnmet (startChecks w start) ≡ numbered (d .number)
     start-drawn some-rows n =
-        let stop = sym (firstUnmet-append (fileChecks f) (drawnChecks g start) met) ∙ refused-by f start d asked n in
-        rw (start-all start some-rows, ne-eqb (d .number) 0 n) (firstUnmet-stops (drawnChecks g start) (check 13 (isMinimal g start) ∷ []) (d .number) stop)
+        let stop = sym (firstUnmet-append (fileChecks f) (drawnChecks w start) met) ∙ refused-by f start d asked n in
+        rw (start-all start some-rows, ne-eqb (d .number) 0 n) (firstUnmet-stops (drawnChecks w start) (check 13 (isMinimal g start) ∷ []) (d .number) stop)
 
-    pub start-path : ¬ (length start ≡ 0) → d .number ≡ 0 → firstUnmet (startChecks g start) ≡ pick (same (rowsIn (d .path)) start) none (some 13)
+    pub start-path : ¬ (length start ≡ 0) → d .number ≡ 0 → firstUnmet (startChecks w start) ≡ pick (same (rowsIn (d .path)) start) none (some 13)
     unfolding firstUnmet
     start-path some-rows z =
         let passed = answered-by f start d asked z in
-        let behind = firstUnmet-append (drawnChecks g start) (check 13 (isMinimal g start) ∷ []) (unmet-parts (fileChecks f) (drawnChecks g start) (passed .met) .1) in
+        let behind = firstUnmet-append (drawnChecks w start) (check 13 (isMinimal g start) ∷ []) (unmet-parts (fileChecks f) (drawnChecks w start) (passed .met) .1) in
         ap firstUnmet (start-all start some-rows) ∙ behind
         ∙ ap (λ (b : Bool). pick b none (some 13)) (minimal-same g (formed f (passed .file)) start (rowsIn (d .path)) (passed .path))
 
-  pub start-none : (start : List ℕ) → length start ≡ 0 → firstUnmet (startChecks g start) ≡ none
+  pub start-none : (start : List ℕ) → length start ≡ 0 → firstUnmet (startChecks w start) ≡ none
   unfolding startChecks firstUnmet
   start-none [] e = refl
   start-none (r ∷ rs) e = absurd (omega arith)
 
-  -- a start that meets its checks is a path of the list
-  pub start-minimal : (start : List ℕ) → firstUnmet (startChecks g start) ≡ none → Startable g start
-  unfolding startChecks drawnChecks
-  start-minimal [] h few = absurd (omega arith)
-  start-minimal (r ∷ rs) h few =
-      T-true _ .1 (met-all (startChecks g (r ∷ rs)) .0 h (check 13 (isMinimal g (r ∷ rs))) (there (there (there (here refl)))))
+  -- a start that meets its checks is a tree of the network's own
+  pub start-listed : (start : List ℕ) → firstUnmet (startChecks w start) ≡ none → Starts (layoutsIn f) start
+  unfolding startChecks drawnChecks treeChecks
+  start-listed [] h few = absurd (omega arith)
+  start-listed (r ∷ rs) h few =
+      let each = met-all (startChecks w (r ∷ rs)) .0 h in
+      let kept = T-true _ .1 (each (check 15 (keepsStates w (r ∷ rs))) (there (there (there (here refl))))) in
+      let minimal = T-true _ .1 (each (check 13 (isMinimal g (r ∷ rs))) (there (there (there (there (here refl)))))) in
+      layouts-mem w (formed f (accepted f met)) (r ∷ rs) .1 (minimal, kept)
 
 -- The call
 
 module _ (f page start : List ℕ) where
   abbrev after12 : List Check
-  after12 = check 11 (leb (width (graphIn f)) (length page)) ∷ startChecks (graphIn f) start
+  after12 = check 11 (leb (width (graphIn f)) (length page)) ∷ startChecks (networkOf f) start
 
-  abbrev after7 : List Check
-  after7 = check 12 (someTree (trees (graphIn f))) ∷ after12
+  table : pageChecks f page start ≡ listedChecks f ++ after12
+  unfolding pageChecks
+  table = sym (append-assoc (fileChecks f) (check 12 (someTree (layoutsIn f)) ∷ []) after12)
 
   refuses : (e : ℕ) → firstUnmet (pageChecks f page start) ≡ some e → record { outcome = refused e; buffers = page } ≡ pageCall f page start
   unfolding pageCall
   refuses e h = sym (ended-unmet (pageChecks f page start) _ page _ e h)
 
-  pub page-file : (e : ℕ) → firstUnmet (fileChecks f) ≡ some e → record { outcome = refused e; buffers = page } ≡ pageCall f page start
-  unfolding pageChecks
-  page-file e h = refuses e (firstUnmet-stops (fileChecks f) after7 e h)
+  -- Open's checks, and 12
+  pub page-listed : (e : ℕ) → firstUnmet (listedChecks f) ≡ some e → record { outcome = refused e; buffers = page } ≡ pageCall f page start
+  page-listed e h = refuses e (ap firstUnmet table ∙ firstUnmet-stops (listedChecks f) after12 e h)
 
-  module _ (met : firstUnmet (fileChecks f) ≡ none) where
-    file-met : firstUnmet (pageChecks f page start) ≡ firstUnmet after7
-    unfolding pageChecks
-    file-met = firstUnmet-append (fileChecks f) after7 met
+  module _ (met : firstUnmet (listedChecks f) ≡ none) where
+    tree-met : firstUnmet (pageChecks f page start) ≡ firstUnmet after12
+    tree-met = ap firstUnmet table ∙ firstUnmet-append (listedChecks f) after12 met
 
-    pub page-none : someTree (trees (graphIn f)) ≡ false → record { outcome = refused 12; buffers = page } ≡ pageCall f page start
-    page-none none-there = refuses 12 (file-met ∙ firstUnmet-unmet _ after12 none-there)
+    pub page-short : length page < width (graphIn f) → record { outcome = refused 11; buffers = page } ≡ pageCall f page start
+    page-short short = refuses 11 (tree-met ∙ firstUnmet-unmet _ (startChecks (networkOf f) start) (lt-leb _ _ short))
 
-    module _ (tree : someTree (trees (graphIn f)) ≡ true) where
-      tree-met : firstUnmet (pageChecks f page start) ≡ firstUnmet after12
-      tree-met = file-met ∙ firstUnmet-met _ after12 tree
+    module _ (room : width (graphIn f) ≤ length page) where
+      room-met : firstUnmet (pageChecks f page start) ≡ firstUnmet (startChecks (networkOf f) start)
+      room-met = tree-met ∙ firstUnmet-met _ (startChecks (networkOf f) start) (le-leb _ _ room)
 
-      pub page-short : length page < width (graphIn f) → record { outcome = refused 11; buffers = page } ≡ pageCall f page start
-      page-short short = refuses 11 (tree-met ∙ firstUnmet-unmet _ (startChecks (graphIn f) start) (lt-leb _ _ short))
+      pub page-start : (e : ℕ) → firstUnmet (startChecks (networkOf f) start) ≡ some e → record { outcome = refused e; buffers = page } ≡ pageCall f page start
+      page-start e h = refuses e (room-met ∙ h)
 
-      module _ (room : width (graphIn f) ≤ length page) where
-        room-met : firstUnmet (pageChecks f page start) ≡ firstUnmet (startChecks (graphIn f) start)
-        room-met = tree-met ∙ firstUnmet-met _ (startChecks (graphIn f) start) (le-leb _ _ room)
-
-        pub page-start : (e : ℕ) → firstUnmet (startChecks (graphIn f) start) ≡ some e → record { outcome = refused e; buffers = page } ≡ pageCall f page start
-        page-start e h = refuses e (room-met ∙ h)
-
-        pub page-met : firstUnmet (startChecks (graphIn f) start) ≡ none → filledBy (width (graphIn f)) page (restAfter (trees (graphIn f)) start) ≡ pageCall f page start
-        unfolding pageCall
-        page-met h = sym (ended-met (pageChecks f page start) _ page _ (room-met ∙ h))
+      pub page-met : firstUnmet (startChecks (networkOf f) start) ≡ none → filledBy (width (graphIn f)) page (restAfter (layoutsIn f) start) ≡ pageCall f page start
+      unfolding pageCall
+      page-met h = sym (ended-met (pageChecks f page start) _ page _ (room-met ∙ h))

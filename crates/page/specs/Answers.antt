@@ -4,7 +4,8 @@ use Prim.Native.Nat.{ℕ}
 use lib.Dec.{eqb}
 use Rattle.checks.specs.Checks.{Outcome, answered, refused}
 use Rattle.lists.specs.Lists.{pick}
-use Rattle.operations.specs.Operations.{Paged, Reached}
+use Rattle.network_file.specs.File.{Sizes}
+use Rattle.operations.specs.Operations.{Paged}
 use Rattle.page.specs.declared.PageAnswer.{PageAnswer}
 use Rattle.page.specs.declared.PageAnswer.the-variants as answer
 
@@ -12,8 +13,8 @@ abbrev pub pagedOf : PageAnswer → Outcome Paged
 pagedOf (answer.Trees count more) = answered (record { count = count; more = more })
 pagedOf (answer.Refused e) = refused e
 
--- a refusal of Reach as one of Page; an answer never is one
-abbrev pub refusedBy : Outcome Reached → Outcome Paged
+-- a refusal of Open, or of 12, as one of Page; an answer never is one
+abbrev pub refusedBy : Outcome Sizes → Outcome Paged
 refusedBy (refused e) = refused e
 refusedBy (answered a) = refused 0
 

@@ -1,19 +1,19 @@
--- What the functions below `page` are given: the ends of a graph's rows, its nodes as a word and its neighbours (`Walkable`), and a start
--- (`Startable`); and what they come to: a page filled with the trees that are left (`filledBy`).
+-- What the functions below `page` are given: the ends of a graph's rows and of its must rows, its nodes as a word and the neighbours by either (`Walkable`), and a
+-- start (`Startable`); and what they come to: a page filled with the trees that are left (`filledBy`).
 use mathlib.Core.Option.{Option, none, some}
 use mathlib.Core.List.{List, map}
 use Prim.Native.Nat.{_<_, ℕ}
-use lib.Dec.{T}
-use lib.ListN.{length}
+use Rattle.lists.proofs.Members.{_∈_}
 use Rattle.lists.specs.Lists.{filterB, range}
 use Rattle.checks.specs.Checks.{Ended, answered}
-use Rattle.graph.proofs.Growth.{Live, start}
-use Rattle.graph.specs.Graph.{Graph, rowNumbers}
-use Rattle.graph.specs.Paths.{Key, isMinimal}
+use Rattle.graph.specs.Graph.{Graph}
+use Rattle.graph.specs.Paths.{Key}
+use Rattle.grow.proofs.Musts.{Mustered}
 use Rattle.operations.specs.Operations.{Paged}
 use Rattle.pages.specs.Pages.{moreAfter, pageAfter, pageCount}
 use Rattle.paths.specs.Path.{keysOf}
 use Rattle.paths.specs.declared.Path.{Path}
+use Rattle.states.specs.States.{mustsOf, treesWith}
 use Rattle.walk.proofs.Behind.{Fitted}
 use Rattle.words.specs.Words.{has}
 
@@ -30,15 +30,17 @@ rowsOpt (some ks) = some (map (λ (k : Key). k .row) ks)
 abbrev pub graphBy : List ℕ → List ℕ → ℕ → ℕ → ℕ → Graph
 graphBy firsts seconds plant limit nodes = record { plant = plant; nodes = filterB (has nodes) (range 1 limit); firstEnds = firsts; secondEnds = seconds }
 
--- what the walk is given fits that graph, which has a node besides the plant and is joined
-pub record Walkable (nb firsts seconds : List ℕ) (plant limit nodes wide : ℕ) : Type 0 where
-  pub fitted : Fitted (graphBy firsts seconds plant limit nodes) nb limit nodes wide
-  pub several : 0 < wide
-  pub joined : Live (graphBy firsts seconds plant limit nodes) (rowNumbers (graphBy firsts seconds plant limit nodes)) (start (graphBy firsts seconds plant limit nodes))
+-- its trees that have all must rows
+abbrev pub listBy : List ℕ → List ℕ → List ℕ → ℕ → ℕ → ℕ → List (List ℕ)
+listBy firsts seconds mustFirsts plant limit nodes = treesWith (graphBy firsts seconds plant limit nodes) (mustsOf mustFirsts)
 
--- the path to start after: none, or one of the list
-abbrev pub Startable : Graph → List ℕ → Type 0
-Startable g start = 0 < length start → T (isMinimal g start)
+-- what the walk is given fits that graph, which has a node besides the plant and such a tree
+pub record Walkable (nb firsts seconds mustNb mustFirsts mustSeconds : List ℕ) (plant limit nodes wide : ℕ) : Type 0 where
+  pub fitted : Fitted (graphBy firsts seconds plant limit nodes) nb limit nodes wide
+  pub mustered : Mustered (graphBy firsts seconds plant limit nodes) nb mustNb mustFirsts mustSeconds limit (mustsOf mustFirsts)
+  pub several : 0 < wide
+  pub tree : List ℕ
+  pub listed : tree ∈ listBy firsts seconds mustFirsts plant limit nodes
 
 -- a page of w places a tree, filled with the trees that are left
 abbrev pub filledBy : ℕ → List ℕ → List (List ℕ) → Ended Paged (List ℕ)

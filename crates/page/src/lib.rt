@@ -7,18 +7,19 @@ ghost use lib.Seq.{paste};
 ghost use mathlib.Core.Option.{none};
 ghost use Rattle.lists.specs.Lists.{same};
 ghost use Rattle.checks.specs.Checks.{firstUnmet};
-ghost use Rattle.graph.specs.Paths.{trees};
-ghost use Rattle.network_file.specs.File.{fileChecks};
-ghost use Rattle.operations.specs.Operations.{graphIn, pageCall, startChecks};
+ghost use Rattle.network_file.specs.File.{fileChecks, networkOf};
+ghost use Rattle.operations.specs.Operations.{pageCall, startChecks};
+ghost use Rattle.pages.proofs.TreePages.{Starts};
 ghost use Rattle.pages.specs.Pages.{restAfter};
 ghost use Rattle.spread.specs.Spread.{neighboursOf};
 ghost use Rattle.trace.specs.Trace.{traceOf};
 ghost use Rattle.walk.specs.Walk.{afterOf, nextOf};
-ghost use Rattle.reach.specs.Answers.{reachedOf};
+ghost use Rattle.network.specs.Answers.{openedOf};
 ghost use Rattle.page.specs.Answers.{numbered, pagedOf, refusedBy};
-ghost use Rattle.page.specs.Walkable.{Startable, Walkable, filledBy, graphBy, rowsIn, rowsOpt};
+ghost use Rattle.page.specs.Walkable.{Walkable, filledBy, listBy, rowsIn, rowsOpt};
+use ends::Rows;
+use network::Opened;
 use paths::Path;
-use reach::ReachAnswer;
 use walk::Next;
 
 /// The answer of Page: how many trees were written, and whether a tree follows.
@@ -40,22 +41,38 @@ fn put(page: &mut [u16], at: usize, path: Path)
     }
 }
 
-// The first path behind all that begin with the rows in these places.
+// The first path behind all that begin with the rows in these places, of those with all must rows: `heads` and `tails` are their ends, and `claims`
+// the neighbours by them.
 fn following(
     neighbours: &[u64],
     firsts: &[u8],
     seconds: &[u8],
+    claims: &[u64],
+    heads: &[u8],
+    tails: &[u8],
     plant: u8,
     limit: u8,
     nodes: u64,
     width: usize,
     places: &[u16],
 ) -> Next
-    ensures { λ r. ⌜ nextOf r ≡ afterOf (now (neighbours .entry)) (now (firsts .entry)) (now (seconds .entry)) limit plant nodes width (traceOf (now (firsts .entry)) (now (seconds .entry)) plant (now (places .entry))) (length (now (places .entry))) ⌝ }
+    ensures { λ r. ⌜ nextOf r ≡ afterOf (now (neighbours .entry)) (now (firsts .entry)) (now (seconds .entry)) (now (claims .entry)) (now (heads .entry)) (now (tails .entry)) limit plant nodes width (traceOf (now (firsts .entry)) (now (seconds .entry)) plant (now (places .entry))) (length (now (places .entry))) ⌝ }
 {
     let path = trace::trace(firsts, seconds, plant, places);
     let len = places.len();
-    walk::after(neighbours, firsts, seconds, limit, nodes, width, path, len)
+    walk::after(
+        neighbours,
+        firsts,
+        seconds,
+        claims,
+        heads,
+        tails,
+        limit,
+        nodes,
+        width,
+        path,
+        len,
+    )
 }
 
 // The first path behind the start; the first of all where the start is empty.
@@ -63,20 +80,26 @@ fn behind(
     neighbours: &[u64],
     firsts: &[u8],
     seconds: &[u8],
+    claims: &[u64],
+    heads: &[u8],
+    tails: &[u8],
     plant: u8,
     limit: u8,
     nodes: u64,
     width: usize,
     start: &[u16],
 ) -> Next
-    requires { ⌜ Walkable (now neighbours) (now firsts) (now seconds) plant limit nodes width × Startable (graphBy (now firsts) (now seconds) plant limit nodes) (now start) ⌝ }
-    ensures { λ r. ⌜ rowsOpt (nextOf r) ≡ getElem? (restAfter (trees (graphBy (now (firsts .entry)) (now (seconds .entry)) plant limit nodes)) (now (start .entry))) 0 ⌝ }
+    requires { ⌜ Walkable (now neighbours) (now firsts) (now seconds) (now claims) (now heads) (now tails) plant limit nodes width × Starts (listBy (now firsts) (now seconds) (now heads) plant limit nodes) (now start) ⌝ }
+    ensures { λ r. ⌜ rowsOpt (nextOf r) ≡ getElem? (restAfter (listBy (now (firsts .entry)) (now (seconds .entry)) (now (heads .entry)) plant limit nodes) (now (start .entry))) 0 ⌝ }
 {
     if 0 < start.len() {
         return following(
             neighbours,
             firsts,
             seconds,
+            claims,
+            heads,
+            tails,
             plant,
             limit,
             nodes,
@@ -86,7 +109,20 @@ fn behind(
     }
     let path = Path::start(plant);
     let fresh = grow::fresh_after(nodes, path);
-    let first = grow::grown(neighbours, firsts, seconds, limit, width, fresh, path, 0, 0);
+    let first = grow::grown_with(
+        neighbours,
+        firsts,
+        seconds,
+        claims,
+        heads,
+        tails,
+        limit,
+        width,
+        fresh,
+        path,
+        0,
+        0,
+    );
     Next {
         some: true,
         path: first,
@@ -98,6 +134,9 @@ fn fill(
     neighbours: &[u64],
     firsts: &[u8],
     seconds: &[u8],
+    claims: &[u64],
+    heads: &[u8],
+    tails: &[u8],
     plant: u8,
     limit: u8,
     nodes: u64,
@@ -105,13 +144,16 @@ fn fill(
     page: &mut [u16],
     start: &[u16],
 ) -> PageAnswer
-    requires { ⌜ Walkable (now neighbours) (now firsts) (now seconds) plant limit nodes width × Startable (graphBy (now firsts) (now seconds) plant limit nodes) (now start) ⌝ }
-    ensures { λ r. ⌜ record { outcome = pagedOf r; buffers = now (page .exit) } ≡ filledBy width (now (page .entry)) (restAfter (trees (graphBy (now (firsts .entry)) (now (seconds .entry)) plant limit nodes)) (now (start .entry))) ⌝ }
+    requires { ⌜ Walkable (now neighbours) (now firsts) (now seconds) (now claims) (now heads) (now tails) plant limit nodes width × Starts (listBy (now firsts) (now seconds) (now heads) plant limit nodes) (now start) ⌝ }
+    ensures { λ r. ⌜ record { outcome = pagedOf r; buffers = now (page .exit) } ≡ filledBy width (now (page .entry)) (restAfter (listBy (now (firsts .entry)) (now (seconds .entry)) (now (heads .entry)) plant limit nodes) (now (start .entry))) ⌝ }
 {
     let mut next = behind(
         neighbours,
         firsts,
         seconds,
+        claims,
+        heads,
+        tails,
         plant,
         limit,
         nodes,
@@ -136,6 +178,9 @@ fn fill(
             neighbours,
             firsts,
             seconds,
+            claims,
+            heads,
+            tails,
             plant,
             limit,
             nodes,
@@ -153,6 +198,8 @@ fn fill(
 fn list(
     firsts: &[u8],
     seconds: &[u8],
+    heads: &[u8],
+    tails: &[u8],
     plant: u8,
     limit: u8,
     nodes: u64,
@@ -160,14 +207,18 @@ fn list(
     page: &mut [u16],
     start: &[u16],
 ) -> PageAnswer
-    requires { ⌜ Walkable (neighboursOf (now firsts) (now seconds)) (now firsts) (now seconds) plant limit nodes width × Startable (graphBy (now firsts) (now seconds) plant limit nodes) (now start) ⌝ }
-    ensures { λ r. ⌜ record { outcome = pagedOf r; buffers = now (page .exit) } ≡ filledBy width (now (page .entry)) (restAfter (trees (graphBy (now (firsts .entry)) (now (seconds .entry)) plant limit nodes)) (now (start .entry))) ⌝ }
+    requires { ⌜ Walkable (neighboursOf (now firsts) (now seconds)) (now firsts) (now seconds) (neighboursOf (now heads) (now tails)) (now heads) (now tails) plant limit nodes width × Starts (listBy (now firsts) (now seconds) (now heads) plant limit nodes) (now start) ⌝ }
+    ensures { λ r. ⌜ record { outcome = pagedOf r; buffers = now (page .exit) } ≡ filledBy width (now (page .entry)) (restAfter (listBy (now (firsts .entry)) (now (seconds .entry)) (now (heads .entry)) plant limit nodes) (now (start .entry))) ⌝ }
 {
     let neighbours = spread::neighbours(firsts, seconds);
+    let claims = spread::neighbours(heads, tails);
     fill(
         &neighbours,
         firsts,
         seconds,
+        &claims,
+        heads,
+        tails,
         plant,
         limit,
         nodes,
@@ -194,9 +245,9 @@ fn written(path: Path, rows: &[u16]) -> bool
     true
 }
 
-// The number of the first check of the start that is not met, of 8, 9, 10 and 13; 0 where there is none.
+// The number of the first check of the start that is not met, of 8, 9, 10, 15 and 13; 0 where there is none.
 fn start_number(file: &[u8], start: &[u16]) -> u8
-    ensures { λ r. ⌜ (firstUnmet (fileChecks (now (file .entry))) ≡ none → firstUnmet (startChecks (graphIn (now (file .entry))) (now (start .entry))) ≡ numbered r) ⌝ }
+    ensures { λ r. ⌜ (firstUnmet (fileChecks (now (file .entry))) ≡ none → firstUnmet (startChecks (networkOf (now (file .entry))) (now (start .entry))) ≡ numbered r) ⌝ }
 {
     if start.len() == 0 {
         return 0;
@@ -208,13 +259,13 @@ fn start_number(file: &[u8], start: &[u16]) -> u8
     if written(drawn.path, start) { 0 } else { 13 }
 }
 
-// A refusal of Reach as one of Page; only a refusal is asked.
-fn refused(reached: ReachAnswer) -> PageAnswer
-    ensures { λ r. ⌜ pagedOf r ≡ refusedBy (reachedOf reached) ⌝ }
+// A refusal of Open, or of 12, as one of Page; only a refusal is asked.
+fn refused(opened: Opened) -> PageAnswer
+    ensures { λ r. ⌜ pagedOf r ≡ refusedBy (openedOf opened) ⌝ }
 {
-    match reached {
-        ReachAnswer::Set { word: _, size: _ } => PageAnswer::Refused(0),
-        ReachAnswer::Refused(number) => PageAnswer::Refused(number),
+    match opened {
+        Opened::Header(_) => PageAnswer::Refused(0),
+        Opened::Refused(number) => PageAnswer::Refused(number),
     }
 }
 
@@ -222,15 +273,11 @@ fn refused(reached: ReachAnswer) -> PageAnswer
 pub fn page(file: &[u8], page: &mut [u16], start: &[u16]) -> PageAnswer
     ensures { λ r. ⌜ record { outcome = pagedOf r; buffers = now (page .exit) } ≡ pageCall (now (file .entry)) (now (page .entry)) (now (start .entry)) ⌝ }
 {
-    let reached = reach::reach(file);
-    let ReachAnswer::Set { word: _, size } = reached else {
-        return refused(reached);
+    let opened = listed::listed(file);
+    let Opened::Header(header) = opened else {
+        return refused(opened);
     };
-    let header = network::header_of(file);
     let n = header.n;
-    if size != n as u32 {
-        return PageAnswer::Refused(12);
-    }
     let width = n as usize - 1;
     if page.len() < width {
         return PageAnswer::Refused(11);
@@ -240,8 +287,23 @@ pub fn page(file: &[u8], page: &mut [u16], start: &[u16]) -> PageAnswer
         return PageAnswer::Refused(number);
     }
     let m = header.m as usize;
-    let firsts = ends::first_ends(file);
-    let seconds = ends::second_ends(file);
+    let open = ends::ends_of(file, Rows::Unbarred);
+    let firsts = open.firsts;
+    let seconds = open.seconds;
+    let must = ends::ends_of(file, Rows::Must);
+    let heads = must.firsts;
+    let tails = must.seconds;
     let nodes = ends::nodes_word(n);
-    list(&firsts[..m], &seconds[..m], 1, n, nodes, width, page, start)
+    list(
+        &firsts[..m],
+        &seconds[..m],
+        &heads[..m],
+        &tails[..m],
+        1,
+        n,
+        nodes,
+        width,
+        page,
+        start,
+    )
 }

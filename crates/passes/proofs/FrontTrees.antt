@@ -14,9 +14,9 @@ use Rattle.lists.proofs.Maps.{map-take}
 use Rattle.lists.proofs.Members.{_∈_, first-here, first-out, first-there, same-of, same-out, take-or-drop, take-out}
 use Rattle.lists.proofs.Orders.{less-asym}
 use Rattle.lists.proofs.Tests.{decide}
-use Rattle.graph.specs.Paths.{trees}
 use Rattle.costs.specs.Costs.{costOf, front, frontOf, vectorLess, vectors}
-use Rattle.costs.specs.Network.{Network, graphOf}
+use Rattle.costs.specs.Layouts.{layouts}
+use Rattle.costs.specs.Network.{Network}
 use Rattle.costs.proofs.Fronts.{front-ascending, front-out}
 use Rattle.costs.proofs.Vectors.{vector-order}
 use Rattle.tables.specs.Tables.{firstWith}
@@ -49,16 +49,16 @@ known-part vs n = record {
 }
 
 module _ (g : Network) where
-  found-tree : (v : List ℕ) → v ∈ vectors g → firstWith (costOf g) v (trees (graphOf g)) ≡ some (treeWith g v)
+  found-tree : (v : List ℕ) → v ∈ vectors g → firstWith (costOf g) v (layouts g) ≡ some (treeWith g v)
   unfolding treeWith
   found-tree v m =
-      let (p, i, e) = map-out (costOf g) (trees (graphOf g)) m in
-      let (q, f) = first-found (λ r. same v (costOf g r)) (trees (graphOf g)) p i (same-of v (costOf g p) (sym e)) in
+      let (p, i, e) = map-out (costOf g) (layouts g) m in
+      let (q, f) = first-found (λ r. same v (costOf g r)) (layouts g) p i (same-of v (costOf g p) (sym e)) in
       f ∙ ap some (sym (ap treeOr f))
 
-  tree-out : (v : List ℕ) → v ∈ vectors g → (treeWith g v ∈ trees (graphOf g)) × (costOf g (treeWith g v) ≡ v)
+  tree-out : (v : List ℕ) → v ∈ vectors g → (treeWith g v ∈ layouts g) × (costOf g (treeWith g v) ≡ v)
   tree-out v m =
-      let (i, t) = first-out (λ r. same v (costOf g r)) (trees (graphOf g)) (found-tree v m) in
+      let (i, t) = first-out (λ r. same v (costOf g r)) (layouts g) (found-tree v m) in
       (i, sym (same-out v (costOf g (treeWith g v)) t))
 
   -- they have the vectors of the front
@@ -71,14 +71,14 @@ module _ (g : Network) where
   front-trees-length = length-map (front g) (treeWith g)
 
   -- each is of the list
-  pub front-listed : (p : List ℕ) → p ∈ frontTrees g → p ∈ trees (graphOf g)
+  pub front-listed : (p : List ℕ) → p ∈ frontTrees g → p ∈ layouts g
   unfolding frontTrees
   front-listed p m =
       let (v, i, e) = map-out (treeWith g) (front g) m in
-      subst (λ (q : List ℕ). q ∈ trees (graphOf g)) e (tree-out v (front-out (vectors g) i .0) .0)
+      subst (λ (q : List ℕ). q ∈ layouts g) e (tree-out v (front-out (vectors g) i .0) .0)
 
   -- first trees are those of their vectors
-  pub firsts-trees : (rows : List (List ℕ)) → Firsts (costOf g) (trees (graphOf g)) rows → rows ≡ map (treeWith g) (map (costOf g) rows)
+  pub firsts-trees : (rows : List (List ℕ)) → Firsts (costOf g) (layouts g) rows → rows ≡ map (treeWith g) (map (costOf g) rows)
   unfolding treeWith
   firsts-trees rows f = sym (map-back (treeWith g) (costOf g) rows (λ r m. ap treeOr (f r m)))
 
@@ -89,9 +89,9 @@ module _ (g : Network) where
     pub known-front : Known (vectors g) (map (costOf g) (take n (frontTrees g)))
     known-front = rw known-vectors (known-part (vectors g) n)
 
-    pub known-firsts : Firsts (costOf g) (trees (graphOf g)) (take n (frontTrees g))
+    pub known-firsts : Firsts (costOf g) (layouts g) (take n (frontTrees g))
     unfolding frontTrees
     known-firsts r m =
         let (v, i, e) = map-out (treeWith g) (front g) (take-out n (frontTrees g) m) in
         let j = front-out (vectors g) i .0 in
-        subst (λ (q : List ℕ). firstWith (costOf g) (costOf g q) (trees (graphOf g)) ≡ some q) e (rw (tree-out v j .1) (found-tree v j))
+        subst (λ (q : List ℕ). firstWith (costOf g) (costOf g q) (layouts g) ≡ some q) e (rw (tree-out v j .1) (found-tree v j))

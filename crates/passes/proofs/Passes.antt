@@ -9,9 +9,9 @@ use lib.ListN.{drop, length, length-append, length-map, length-take, take}
 use lib.Seq.{drop-at, length-take-le, take-add}
 use Rattle.lists.proofs.Maps.{map-drop, map-take}
 use Rattle.lists.proofs.Members.{_∈_}
-use Rattle.graph.specs.Paths.{trees}
 use Rattle.costs.specs.Costs.{costOf, front, vectors}
-use Rattle.costs.specs.Network.{Network, graphOf}
+use Rattle.costs.specs.Layouts.{layouts}
+use Rattle.costs.specs.Network.{Network}
 use Rattle.costs.proofs.Networks.{vectors-sized}
 use Rattle.tables.specs.Tables.{Table}
 use Rattle.tables.proofs.Bare.{bare}
@@ -34,7 +34,7 @@ pub record PassEnd (g : Network) (n : ℕ) (s : Table (List ℕ)) : Type 0 where
 -- the pass has done these trees, and the table stands behind the known rows
 abbrev pub Done : Network → ℕ → ℕ → List (List ℕ) → Table (List ℕ) → Type 0
 Done g n more done s =
-    Walked (costOf g) (length (knownTrees g n) + more) (map (costOf g) (knownTrees g n)) (trees (graphOf g)) done (behind (knownTrees g n) s)
+    Walked (costOf g) (length (knownTrees g n) + more) (map (costOf g) (knownTrees g n)) (layouts g) done (behind (knownTrees g n) s)
 
 module _ (g : Network) (n more : ℕ) where
   abbrev known : List (List ℕ)
@@ -46,16 +46,16 @@ module _ (g : Network) (n more : ℕ) where
     firsts = known-firsts g n;
   })
 
-  pub pass-goes-on : (done rest : List (List ℕ)) (p : List ℕ) (s : Table (List ℕ)) → done ++ p ∷ rest ≡ trees (graphOf g) → Done g n more done s
+  pub pass-goes-on : (done rest : List (List ℕ)) (p : List ℕ) (s : Table (List ℕ)) → done ++ p ∷ rest ≡ layouts g → Done g n more done s
       → Done g n more (done ++ (p ∷ [])) (enterBehind (costOf g) more known s p)
   pass-goes-on done rest p s e w =
-      let member : p ∈ trees (graphOf g) = subst (λ (l : List (List ℕ)). p ∈ l) e (append-right done (here refl)) in
-      subst (Walked (costOf g) (length known + more) (map (costOf g) known) (trees (graphOf g)) (done ++ (p ∷ [])))
-      (enter-behind (costOf g) (length (g .kinds)) (trees (graphOf g)) known (vectors-sized g (trees (graphOf g))) (known-front g n) p member more s)
-      (walked-step (costOf g) (length (g .kinds)) (length known + more) (map (costOf g) known) (vectors-sized g known) (trees (graphOf g)) done rest p (behind known s) e
+      let member : p ∈ layouts g = subst (λ (l : List (List ℕ)). p ∈ l) e (append-right done (here refl)) in
+      subst (Walked (costOf g) (length known + more) (map (costOf g) known) (layouts g) (done ++ (p ∷ [])))
+      (enter-behind (costOf g) (length (g .kinds)) (layouts g) known (vectors-sized g (layouts g)) (known-front g n) p member more s)
+      (walked-step (costOf g) (length (g .kinds)) (length known + more) (map (costOf g) known) (vectors-sized g known) (layouts g) done rest p (behind known s) e
       (vectors-sized g done) (vectors-sized g (p ∷ []) (costOf g p) (here refl)) w)
 
-  module _ (fits : n ≤ length (front g)) (room : 0 < more) (s : Table (List ℕ)) (w : Done g n more (trees (graphOf g)) s) where
+  module _ (fits : n ≤ length (front g)) (room : 0 < more) (s : Table (List ℕ)) (w : Done g n more (layouts g) s) where
     end : Ended (length (map (costOf g) known) + more) (vectors g) (map (costOf g) known) (bare (costOf g) (behind known s))
     end = rw length-map (pass-end (length known + more) (vectors g) (map (costOf g) known) (bare (costOf g) (behind known s)) (known-front g n) (w .pass))
 
@@ -71,7 +71,7 @@ module _ (g : Network) (n more : ℕ) where
     -- all rows are the first of the front
     vectors-first : map (costOf g) (known ++ s .rows) ≡ take (n + length (s .rows)) (front g)
     vectors-first =
-        known-initial (vectors g) (map (costOf g) (known ++ s .rows)) (scratch-known _ more 0 (vectors g) (map (costOf g) known) (vectors-sized g (trees (graphOf g))) (known-front g n) room _ end)
+        known-initial (vectors g) (map (costOf g) (known ++ s .rows)) (scratch-known _ more 0 (vectors g) (map (costOf g) known) (vectors-sized g (layouts g)) (known-front g n) room _ end)
         ∙ ap (λ (m : ℕ). take m (front g)) bare-long
 
     trees-first : known ++ s .rows ≡ take (n + length (s .rows)) (frontTrees g)
@@ -93,7 +93,7 @@ module _ (g : Network) (n more : ℕ) where
       vectors-are = ap (map (costOf g)) rows-next ∙ map-take (costOf g) (length (s .rows)) (drop n (frontTrees g))
           ∙ ap (take (length (s .rows))) (map-drop (costOf g) n (frontTrees g) ∙ ap (drop n) (front-vectors g));
       all = λ e.
-          let (_, short) = scratch-whole (length (g .kinds)) more (n + length (s .rows)) (vectors g) (map (costOf g) known) (vectors-sized g (trees (graphOf g))) (known-front g n) room
+          let (_, short) = scratch-whole (length (g .kinds)) more (n + length (s .rows)) (vectors g) (map (costOf g) known) (vectors-sized g (layouts g)) (known-front g n) room
           (bare (costOf g) (behind known s)) end e (omega (arith, bare-long)) in
           omega (arith, within-front);
       some-more = λ v e. omega (
@@ -101,6 +101,6 @@ module _ (g : Network) (n more : ℕ) where
         bare-long,
         long,
         length-map known (costOf g),
-        scratch-again (length (g .kinds)) more 0 (vectors g) (map (costOf g) known) (vectors-sized g (trees (graphOf g))) (known-front g n) room (bare (costOf g) (behind known s)) end v e,
+        scratch-again (length (g .kinds)) more 0 (vectors g) (map (costOf g) known) (vectors-sized g (layouts g)) (known-front g n) room (bare (costOf g) (behind known s)) end v e,
       );
     }

@@ -4,9 +4,9 @@ use mathlib.Core.List.{List, [], _++_, map}
 use Prim.Native.Nat.{ℕ}
 use lib.ListN.{take}
 use Rattle.lists.specs.Lists.{pick}
-use Rattle.graph.specs.Paths.{trees}
 use Rattle.costs.specs.Costs.{costOf, front}
-use Rattle.costs.specs.Network.{Network, graphOf}
+use Rattle.costs.specs.Layouts.{layouts}
+use Rattle.costs.specs.Network.{Network}
 use Rattle.tables.specs.Tables.{Table, enterBounded, firstWith, met}
 
 -- the known rows, and behind them those of a table
@@ -24,7 +24,7 @@ treeOr (some p) = p
 
 -- the first tree of the list that has the vector
 unfoldable pub treeWith : Network → List ℕ → List ℕ
-treeWith g v = treeOr (firstWith (costOf g) v (trees (graphOf g)))
+treeWith g v = treeOr (firstWith (costOf g) v (layouts g))
 
 -- the first tree of each vector of the front
 unfoldable pub frontTrees : Network → List (List ℕ)

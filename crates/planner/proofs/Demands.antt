@@ -13,23 +13,27 @@ use Rattle.lists.proofs.Members.{_∈_, _⊆_, take-out}
 use Rattle.lists.proofs.Orders.{Ascending, ascending-distinct}
 use Rattle.lists.proofs.Tests.{T-both, T-true}
 use Rattle.graph.specs.Graph.{Graph, isTree, width}
-use Rattle.graph.specs.Paths.{isMinimal, pathOf, trees}
+use Rattle.graph.specs.Paths.{isMinimal, pathOf}
 use Rattle.graph.proofs.PathOf.{pathOf-tree}
+use Rattle.graph.proofs.Parts.{part-distinct, part-length}
 use Rattle.graph.proofs.Tree.{minimal-tree, minimal-unique, tree-out}
-use Rattle.graph.proofs.Trees.{trees-distinct, trees-length, trees-minimal}
 use Rattle.checks.specs.Checks.{Check, Ended, Outcome, answered, checked, ended, firstUnmet, refused}
 use Rattle.checks.proofs.Checks.{StopsAt, firstUnmet-append, firstUnmet-met, met-all, stops-iff}
-use Rattle.checks.proofs.Ended.{checked-refused, checked-unmet, ended-met, ended-refused, ended-unmet}
+use Rattle.checks.proofs.Ended.{checked-met, checked-refused, checked-unmet, ended-met, ended-refused, ended-unmet}
 use Rattle.costs.specs.Costs.{costOf, front, vectorLess, vectors}
+use Rattle.costs.specs.Layouts.{keepsStates, mustRows}
 use Rattle.costs.specs.Network.{Network}
+use Rattle.costs.proofs.Layouts.{keeps-same, layouts-mem, layouts-part}
 use Rattle.costs.proofs.Fronts.{Undominated, front-ascending, front-members}
 use Rattle.costs.proofs.Networks.{vectors-sized}
 use Rattle.costs.proofs.Vectors.{vector-order}
+use Rattle.forests.proofs.Forest.{Forest}
 use Rattle.network_file.specs.File.{fileChecks, networkOf, openOf, sizesOf}
 use Rattle.network_file.proofs.Accepted.{Accepted, accepted}
-use Rattle.operations.specs.Operations.{Fronted, Witnesses, capacity, check, costCall, costChecks, drawnChecks, frontCall, frontChecks, graphIn, orderCall, orderChecks, over, pageCall, pageChecks, pathIn, reachCall, rowsFilled, someTree, startChecks}
+use Rattle.operations.specs.Operations.{Fronted, Reached, Witnesses, capacity, check, costCall, costChecks, drawnChecks, frontCall, frontChecks, graphIn, layoutsIn, orderCall, orderChecks, over, pageCall, pageChecks, pathIn, reachCall, rowsFilled, someTree, startChecks, treeChecks}
 use Rattle.pages.specs.Pages.{flat, pieces}
 use Rattle.pages.proofs.Pages.{pieces-flat}
+use Rattle.operations.proofs.Exists.{size-listed}
 use Rattle.operations.proofs.Files.{formed}
 use Rattle.operations.proofs.Runs.{Claim, claim}
 use Rattle.operations.proofs.Costs.{cost-same}
@@ -47,12 +51,12 @@ abbrev pub numbers : List Check → List ℕ
 numbers cs = map (λ c. c .number) cs
 
 abbrev pub fileNumbers : List ℕ
-fileNumbers = 1 ∷ 2 ∷ 3 ∷ 4 ∷ 5 ∷ 6 ∷ 7 ∷ []
+fileNumbers = 1 ∷ 2 ∷ 3 ∷ 4 ∷ 5 ∷ 6 ∷ 7 ∷ 14 ∷ []
 
 -- those of a path to start after
 abbrev pub startNumbers : List ℕ → List ℕ
 startNumbers [] = []
-startNumbers (r ∷ rs) = 8 ∷ 9 ∷ 10 ∷ 13 ∷ []
+startNumbers (r ∷ rs) = 8 ∷ 9 ∷ 10 ∷ 15 ∷ 13 ∷ []
 
 -- Open and Reach are lent nothing to write in
 pub record Demand1 (f rows buffer page start costs witnesses : List ℕ) : Type 0 where
@@ -63,10 +67,10 @@ pub record Demand1 (f rows buffer page start costs witnesses : List ℕ) : Type 
   pub pages : Refuses (pageChecks f page start) (pageCall f page start) page
   pub fronts : Refuses (frontChecks f costs witnesses) (frontCall f costs witnesses) costs
   pub witnessed : (after : List ℕ) (e : ℕ) → Witnesses f costs witnesses after → frontCall f costs witnesses .outcome ≡ refused e → after ≡ witnesses
-  -- document 01's order
+  -- document 01's order, with 14 and 15 of document 02
   pub file-order : numbers (fileChecks f) ≡ fileNumbers
-  pub order-order : numbers (orderChecks f rows buffer) ≡ fileNumbers ++ (8 ∷ 9 ∷ 10 ∷ 11 ∷ [])
-  pub cost-order : numbers (costChecks f rows buffer) ≡ fileNumbers ++ (8 ∷ 9 ∷ 10 ∷ 11 ∷ [])
+  pub order-order : numbers (orderChecks f rows buffer) ≡ fileNumbers ++ (8 ∷ 9 ∷ 10 ∷ 15 ∷ 11 ∷ [])
+  pub cost-order : numbers (costChecks f rows buffer) ≡ fileNumbers ++ (8 ∷ 9 ∷ 10 ∷ 15 ∷ 11 ∷ [])
   pub page-order : numbers (pageChecks f page start) ≡ fileNumbers ++ (12 ∷ 11 ∷ startNumbers start)
   pub front-order : numbers (frontChecks f costs witnesses) ≡ fileNumbers ++ (12 ∷ 11 ∷ [])
 
@@ -79,10 +83,10 @@ refuses-ended cs a before after = record {
   kept = λ e h. ap (λ (x : Ended _ _). x .buffers) (ended-unmet cs a before after e (ended-refused cs a before after e h));
 }
 
-start-order : (g : Graph) (start : List ℕ) → numbers (startChecks g start) ≡ startNumbers start
-unfolding startChecks drawnChecks
-start-order g [] = refl
-start-order g (r ∷ rs) = refl
+start-order : (w : Network) (start : List ℕ) → numbers (startChecks w start) ≡ startNumbers start
+unfolding startChecks drawnChecks treeChecks
+start-order w [] = refl
+start-order w (r ∷ rs) = refl
 
 -- no row is filled after a refusal
 none-filled : (f costs witnesses after : List ℕ) (e : ℕ) → Witnesses f costs witnesses after → frontCall f costs witnesses .outcome ≡ refused e → after ≡ witnesses
@@ -94,7 +98,7 @@ none-filled f costs witnesses after e w h = go (w .paths) (w .vectors ∙ ap (λ
     go (p ∷ paths) m t = let z : _≡_ {A = ℕ} 0 1 = cc in absurd (omega arith)
 
 pub demand-1 : (f rows buffer page start costs witnesses : List ℕ) → Demand1 f rows buffer page start costs witnesses
-unfolding openOf reachCall orderCall costCall pageCall frontCall fileChecks orderChecks costChecks pageChecks frontChecks drawnChecks
+unfolding openOf reachCall orderCall costCall pageCall frontCall fileChecks orderChecks costChecks pageChecks frontChecks drawnChecks treeChecks
 demand-1 f rows buffer page start costs witnesses = record {
   opens = refuses-checked (fileChecks f) _;
   reaches = refuses-checked (fileChecks f) _;
@@ -106,7 +110,7 @@ demand-1 f rows buffer page start costs witnesses = record {
   file-order = refl;
   order-order = refl;
   cost-order = refl;
-  page-order = ap (λ (l : List ℕ). fileNumbers ++ (12 ∷ 11 ∷ l)) (start-order (graphIn f) start);
+  page-order = ap (λ (l : List ℕ). fileNumbers ++ (12 ∷ 11 ∷ l)) (start-order (networkOf f) start);
   front-order = refl;
 }
 
@@ -115,7 +119,9 @@ demand-1 f rows buffer page start costs witnesses = record {
 -- the one minimal path of a spanning tree
 pub record PathOfTree (f rows : List ℕ) : Type 0 where
   pub path : List ℕ
-  pub listed : path ∈ trees (graphIn f)
+  pub minimal : T (isMinimal (graphIn f) path)
+  -- the list has it exactly if the rows keep the rows' states
+  pub listed : T (keepsStates (networkOf f) rows) ↔ (path ∈ layoutsIn f)
   -- with exactly its rows
   pub within : path ⊆ rows
   pub around : rows ⊆ path
@@ -124,23 +130,41 @@ pub record PathOfTree (f rows : List ℕ) : Type 0 where
   pub ordered : pathIn (pathOf (graphIn f) rows) ≡ path
   pub priced : costOf (networkOf f) rows ≡ costOf (networkOf f) path
 
--- Each listed layout is a spanning tree written as its minimal path; each drawn tree is turned into the one minimal path with exactly
--- its rows; each cost is over exactly those rows.
+-- A tree exists exactly if Reach's size is n and the must rows have no cycle.
+pub record Exists (f : List ℕ) : Type 0 where
+  pub reach : Reached
+  pub reaches : reachCall f ≡ answered reach
+  pub exactly : T (someTree (layoutsIn f)) ↔ ((reach .size ≡ sizesOf f .n) × Forest (graphIn f) (mustRows (networkOf f)))
+
+-- Each listed layout is a spanning tree with all must rows and no barred row, written as its minimal path; each drawn tree is turned into the
+-- one minimal path with exactly its rows; each cost is over exactly those rows.
 pub record Demand2 (f : List ℕ) : Type 0 where
-  pub trees-are : (path : List ℕ) → path ∈ trees (graphIn f) → T (isTree (graphIn f) path) × T (isMinimal (graphIn f) path)
-  pub once : Distinct (trees (graphIn f))
+  pub exists : Exists f
+  pub trees-are : (path : List ℕ) → path ∈ layoutsIn f → T (isTree (graphIn f) path) × T (isMinimal (graphIn f) path) × T (keepsStates (networkOf f) path)
+  pub once : Distinct (layoutsIn f)
   pub each : (rows : List ℕ) → T (isTree (graphIn f) rows) → PathOfTree f rows
 
-module _ (f : List ℕ) (a : Accepted f) where
+module _ (f : List ℕ) (ok : firstUnmet (fileChecks f) ≡ none) where
   abbrev g : Graph
   g = graphIn f
+
+  a : Accepted f
+  a = accepted f ok
+
+  tree-exists : Exists f
+  unfolding reachCall
+  tree-exists = record { reach = _; reaches = checked-met (fileChecks f) _ ok; exactly = size-listed f a }
 
   path-of-tree : (rows : List ℕ) → T (isTree (graphIn f) rows) → PathOfTree f rows
   path-of-tree rows t =
       let (p, found, minimal, within, around) = pathOf-tree g (formed f a) rows t in
       record {
         path = p;
-        listed = trees-minimal g (formed f a) p .1 minimal;
+        minimal = minimal;
+        listed = (
+          λ t. layouts-mem (networkOf f) (formed f a) p .1 (minimal, keeps-same (networkOf f) rows p around within t),
+          λ m. keeps-same (networkOf f) p rows within around (layouts-mem (networkOf f) (formed f a) p .0 m .1),
+        );
         within = within;
         around = around;
         only = λ q m i o. minimal-unique g (formed f a) q p m minimal (λ r h. around r (i r h)) (λ r h. o r (within r h));
@@ -150,8 +174,9 @@ module _ (f : List ℕ) (a : Accepted f) where
 
   pub demand-2 : Demand2 f
   demand-2 = record {
-    trees-are = λ p m. let t = trees-minimal g (formed f a) p .0 m in (minimal-tree g (formed f a) p t, t);
-    once = trees-distinct g;
+    exists = tree-exists;
+    trees-are = λ p m. let (t, keeps) = layouts-mem (networkOf f) (formed f a) p .0 m in (minimal-tree g (formed f a) p t, t, keeps);
+    once = part-distinct (layouts-part (networkOf f));
     each = path-of-tree;
   }
 
@@ -174,7 +199,7 @@ pub record FrontClaim (f costs witnesses : List ℕ) : Type 0 where
   pub trees-are : (after : List ℕ) → Witnesses f costs witnesses after
       → map (costOf (networkOf f)) (pieces (width (graphIn f)) (answer .count) after) ≡ take (answer .count) (front (networkOf f))
   pub listed : (after : List ℕ) → Witnesses f costs witnesses after
-      → (p : List ℕ) → p ∈ pieces (width (graphIn f)) (answer .count) after → p ∈ trees (graphIn f)
+      → (p : List ℕ) → p ∈ pieces (width (graphIn f)) (answer .count) after → p ∈ layoutsIn f
 
 -- The run of pages, for every list of calls, and the front beside it.
 pub record Demand3 (f : List ℕ) : Type 0 where
@@ -187,16 +212,13 @@ take-own zero l = refl
 take-own (suc n) [] = refl
 take-own (suc n) (x ∷ l) = ap (λ (m : List _). x ∷ m) (take-own n l)
 
-module _ (f : List ℕ) (ok : firstUnmet (fileChecks f) ≡ none) (tree : T (someTree (trees (graphIn f)))) where
+module _ (f : List ℕ) (ok : firstUnmet (fileChecks f) ≡ none) (tree : T (someTree (layoutsIn f))) where
   abbrev w : Network
   w = networkOf f
 
-  a : Accepted f
-  a = accepted f ok
-
   -- all vectors of the front have k components
   front-sized : (v : List ℕ) → v ∈ front w → length v ≡ sizesOf f .k
-  front-sized v m = vectors-sized w (trees (graphIn f)) v (front-members v (vectors w) .0 m .0) ∙ a .kinds
+  front-sized v m = vectors-sized w (layoutsIn f) v (front-members v (vectors w) .0 m .0) ∙ a f ok .kinds
 
   module _ (costs witnesses : List ℕ) (wide : sizesOf f .k ≤ length costs) (long : width (graphIn f) ≤ length witnesses) where
     abbrev cap : ℕ
@@ -209,7 +231,7 @@ module _ (f : List ℕ) (ok : firstUnmet (fileChecks f) ≡ none) (tree : T (som
     unfolding frontChecks
     met =
         firstUnmet-append (fileChecks f) _ ok
-        ∙ firstUnmet-met (check 12 (someTree (trees (graphIn f)))) _ (T-true _ .0 tree)
+        ∙ firstUnmet-met (check 12 (someTree (layoutsIn f))) _ (T-true _ .0 tree)
         ∙ firstUnmet-met (check 11 (both (leb (sizesOf f .k) (length costs)) (leb (width (graphIn f)) (length witnesses)))) []
         (T-true _ .0 (T-both (leb (sizesOf f .k) (length costs)) (leb (width (graphIn f)) (length witnesses)) .1 (le→leb _ _ wide, le→leb _ _ long)))
         ∙ met-all [] .1 (λ c m. absurd (mem-nil m))
@@ -245,7 +267,7 @@ module _ (f : List ℕ) (ok : firstUnmet (fileChecks f) ≡ none) (tree : T (som
       paths-read =
           ap (λ (n : ℕ). pieces (width (graphIn f)) n after) (sym paths-count)
           ∙ ap (pieces (width (graphIn f)) (length (h .paths))) (h .table)
-          ∙ pieces-flat (width (graphIn f)) (h .paths) (drop (length (flat (h .paths))) witnesses) (λ p m. trees-length (graphIn f) p (h .listed p m))
+          ∙ pieces-flat (width (graphIn f)) (h .paths) (drop (length (flat (h .paths))) witnesses) (λ p m. part-length (layouts-part (networkOf f)) p (h .listed p m))
 
     front-claim : FrontClaim f costs witnesses
     front-claim = record {

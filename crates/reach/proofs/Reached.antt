@@ -28,8 +28,8 @@ use Rattle.network_file.specs.File.{networkOf, sizesOf}
 use Rattle.network_file.proofs.Accepted.{Accepted}
 use Rattle.ends.specs.Ends.{nodesWord}
 use Rattle.ends.proofs.Ends.{nodes-graph}
-use Rattle.operations.specs.Operations.{graphIn, reachedNodes, wordOf}
-use Rattle.operations.proofs.Files.{formed}
+use Rattle.operations.specs.Operations.{openIn, reachedNodes, wordOf}
+use Rattle.operations.proofs.Files.{open-formed-in}
 use Rattle.reach.specs.Reached.{reachedWord}
 
 -- Ascending numbers
@@ -134,26 +134,26 @@ module _ (g : Graph) (limit nodes : ℕ) (fits : Fits g limit nodes) where
         let even : word % 2 ≡ 0 = omega (arith, twice) in
         ap ones low ∙ omega (arith, ones-step word) ∙ ones-members word 33 word-lt ∙ ap length listed
 
--- Of an accepted file
+-- Of an accepted file: the rows that are not barred
 
 abbrev pub fileWord : List ℕ → ℕ
-fileWord f = reachedWord (graphIn f .firstEnds) (graphIn f .secondEnds) (sizesOf f .n) 1 (nodesWord (sizesOf f .n))
+fileWord f = reachedWord (openIn f .firstEnds) (openIn f .secondEnds) (sizesOf f .n) 1 (nodesWord (sizesOf f .n))
 
 module _ (f : List ℕ) (a : Accepted f) where
-  pub file-fits : Fits (graphIn f) (sizesOf f .n) (nodesWord (sizesOf f .n))
+  pub file-fits : Fits (openIn f) (sizesOf f .n) (nodesWord (sizesOf f .n))
   unfolding networkOf
   file-fits = record {
-    formed = formed f a;
+    formed = open-formed-in f a;
     low = λ v m. omega (arith, range-out 1 (sizesOf f .n) m .1);
     small = a .nodes-high;
     known = nodes-graph f a;
   }
 
-  pub file-has : (v : ℕ) → T (has (fileWord f) v) ↔ v ∈ reachedNodes (graphIn f)
-  file-has = reached-has (graphIn f) _ _ file-fits
+  pub file-has : (v : ℕ) → T (has (fileWord f) v) ↔ v ∈ reachedNodes (openIn f)
+  file-has = reached-has (openIn f) _ _ file-fits
 
-  pub file-word : fileWord f / 2 % 2 ^ 32 ≡ wordOf (reachedNodes (graphIn f))
-  file-word = reached-word (graphIn f) _ _ file-fits (range-ascending 1 (networkOf f .nodeCount))
+  pub file-word : fileWord f / 2 % 2 ^ 32 ≡ wordOf (reachedNodes (openIn f))
+  file-word = reached-word (openIn f) _ _ file-fits (range-ascending 1 (networkOf f .nodeCount))
 
-  pub file-size : ones (fileWord f / 2 % 2 ^ 32) ≡ length (reachedNodes (graphIn f))
-  file-size = reached-size (graphIn f) _ _ file-fits (range-ascending 1 (networkOf f .nodeCount))
+  pub file-size : ones (fileWord f / 2 % 2 ^ 32) ≡ length (reachedNodes (openIn f))
+  file-size = reached-size (openIn f) _ _ file-fits (range-ascending 1 (networkOf f .nodeCount))

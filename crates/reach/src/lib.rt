@@ -1,9 +1,10 @@
-//! Reach: the nodes that rows join to the plant, as a word, and how many they are.
+//! Reach: the nodes that rows which are not barred join to the plant, as a word, and how many they are.
 ghost use mathlib.Core.Path.{_≡_};
 ghost use Rattle.network.specs.Answers.{openedOf};
 ghost use Rattle.operations.specs.Operations.{reachCall};
 ghost use Rattle.reach.specs.Answers.{reachedOf, refusedBy};
 ghost use Rattle.reach.specs.Reached.{reachedWord};
+use ends::Rows;
 use network::Opened;
 
 /// The answer of Reach: bit p - 1 of the word stands for node p.
@@ -42,8 +43,9 @@ pub fn reach(file: &[u8]) -> ReachAnswer
         return refused(opened);
     };
     let m = header.m as usize;
-    let firsts = ends::first_ends(file);
-    let seconds = ends::second_ends(file);
+    let open = ends::ends_of(file, Rows::Unbarred);
+    let firsts = open.firsts;
+    let seconds = open.seconds;
     let nodes = ends::nodes_word(header.n);
     let reached = reached_word(&firsts[..m], &seconds[..m], header.n, 1, nodes);
     let word = (reached / 2 % 4294967296) as u32;

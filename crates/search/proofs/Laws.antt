@@ -4,12 +4,14 @@ use mathlib.Core.Bool.{false, true}
 use mathlib.Core.Option.{Option, none, some}
 use mathlib.Core.List.{List}
 use Prim.Native.Nat.{_+_, _-_, _<_, _≤_, suc, ℕ}
-use native.Mathlib.Decide.{decLt}
+use native.Mathlib.Decide.{decLt, ℕ-discrete}
 use native.Mathlib.Nat.{sub-zero}
 use native.Mathlib.Numerals.{add-one}
 use native.Mathlib.Omega.{arith}
-use borrow.Author.Tests.{le-ltb, lt-ltb}
+use borrow.Author.Tests.{eq-eqb, le-ltb, lt-ltb, ne-eqb}
+use lib.Dec.{eqb}
 use lib.ListN.{getD, length}
+use Rattle.lists.specs.Lists.{pick}
 use Rattle.graph.specs.Paths.{Key}
 use Rattle.words.specs.Words.{has}
 use Rattle.spread.specs.Spread.{openAt}
@@ -85,18 +87,49 @@ module _ (nb firsts seconds : List ℕ) (limit fresh : ℕ) (entered : List ℕ)
   unfolding fromRow rowTry
   at-row i p v r h e = rw (first-more _ _ _ h, e)
 
--- The next row: `nextRowOf` at a row is itself what is left of the search behind it
+-- The next row: what is left of the search from row q on
 
 module _ (firsts seconds : List ℕ) (u v : ℕ) where
-  pub next-over : (q : ℕ) → length firsts ≤ q + 1 → nextRowOf firsts seconds q u v ≡ none
-  unfolding nextRowOf
-  next-over q h = first-over _ _ (suc q) (omega arith)
+  unfoldable pub fromNext : ℕ → Option ℕ
+  fromNext q = firstFrom (λ q. pick (joinsAt firsts seconds q u v) (some q) none) (length firsts - q) q
 
-  pub next-skip : (q : ℕ) → q + 1 < length firsts → joinsAt firsts seconds (q + 1) u v ≡ false
-      → nextRowOf firsts seconds q u v ≡ nextRowOf firsts seconds (q + 1) u v
+  pub next-none : (r : ℕ) → length firsts ≤ r → none ≡ nextRowOf firsts seconds r u v
   unfolding nextRowOf
-  next-skip q h e = rw (← add-one q, first-more _ _ (q + 1) h, e)
+  next-none r h = sym (first-over _ _ (suc r) (omega arith))
 
-  pub next-at : (q : ℕ) → q + 1 < length firsts → joinsAt firsts seconds (q + 1) u v ≡ true → nextRowOf firsts seconds q u v ≡ some (q + 1)
-  unfolding nextRowOf
-  next-at q h e = rw (← add-one q, first-more _ _ (q + 1) h, e)
+  pub next-start : (r : ℕ) → nextRowOf firsts seconds r u v ≡ fromNext (r + 1)
+  unfolding nextRowOf fromNext
+  next-start r = rw add-one
+
+  pub next-over : (q : ℕ) → length firsts ≤ q → fromNext q ≡ none
+  unfolding fromNext
+  next-over q h = first-over _ _ q h
+
+  pub next-skip : (q : ℕ) → q < length firsts → joinsAt firsts seconds q u v ≡ false → fromNext q ≡ fromNext (q + 1)
+  unfolding fromNext
+  next-skip q h e = rw (first-more _ _ _ h, e, add-one)
+
+  pub next-at : (q : ℕ) → q < length firsts → joinsAt firsts seconds q u v ≡ true → fromNext q ≡ some q
+  unfolding fromNext
+  next-at q h e = rw (first-more _ _ _ h, e)
+
+-- Whether a row with the ends a and b joins u and v, by its first end
+
+module _ (firsts seconds : List ℕ) (r u v : ℕ) {a : ℕ} (first : a ≡ getD firsts r 0) where
+  pub joins-first : {b : ℕ} → b ≡ getD seconds r 0 → a ≡ u → eqb b v ≡ joinsAt firsts seconds r u v
+  unfolding joinsAt
+  joins-first {b} second e = rw (← first, ← second, eq-eqb a u e) (elim (ℕ-discrete b v) [
+    | yes d ↦ rw (eq-eqb b v d)
+    | no n ↦ rw (ne-eqb b v n) (elim (ℕ-discrete a v) [
+      | yes d ↦ rw (eq-eqb a v d, ne-eqb b u (λ f. n (f ∙ sym e ∙ d)))
+      | no m ↦ rw (ne-eqb a v m)
+    ])
+  ])
+
+  pub joins-second : {b : ℕ} → b ≡ getD seconds r 0 → ¬ (a ≡ u) → a ≡ v → eqb b u ≡ joinsAt firsts seconds r u v
+  unfolding joinsAt
+  joins-second {b} second n e = rw (← first, ← second, ne-eqb a u n, eq-eqb a v e)
+
+  pub joins-none : ¬ (a ≡ u) → ¬ (a ≡ v) → false ≡ joinsAt firsts seconds r u v
+  unfolding joinsAt
+  joins-none n m = rw (← first, ne-eqb a u n, ne-eqb a v m)

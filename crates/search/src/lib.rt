@@ -1,7 +1,5 @@
 //! The first legal step of a growing path: a nested search over pivot places, nodes and rows, left at the first legal step.
-ghost use mathlib.Core.Bool.{_&&_};
 ghost use mathlib.Core.Path.{_≡_};
-ghost use lib.Dec.{eqb};
 ghost use Rattle.search.specs.Search.{firstStepOf, foundOf, joinsAt, nextRowOf, rowFoundOf};
 
 /// A step of a path: from the node at a place to a node, by a row.
@@ -21,22 +19,18 @@ pub enum RowFound {
     NoRow,
 }
 
-fn pair(a: u8, b: u8, u: u8, v: u8) -> bool
-    ensures { λ x. ⌜ x ≡ (eqb a u && eqb b v) ⌝ }
-{
-    if a == u { b == v } else { false }
-}
-
 /// Whether row r joins u and v.
 pub fn joins(firsts: &[u8], seconds: &[u8], r: usize, u: u8, v: u8) -> bool
     ensures { λ x. ⌜ x ≡ joinsAt (now (firsts .entry)) (now (seconds .entry)) r u v ⌝ }
 {
     let a = slices::byte_at(firsts, r);
-    let b = slices::byte_at(seconds, r);
-    if pair(a, b, u, v) {
-        return true;
+    if a == u {
+        return slices::byte_at(seconds, r) == v;
     }
-    pair(a, b, v, u)
+    if a == v {
+        return slices::byte_at(seconds, r) == u;
+    }
+    false
 }
 
 /// The first legal step of the state with these nodes entered and this bound.
@@ -85,14 +79,15 @@ pub fn first_step(
 pub fn next_row(firsts: &[u8], seconds: &[u8], r: usize, u: u8, v: u8) -> RowFound
     ensures { λ x. ⌜ rowFoundOf x ≡ nextRowOf (now (firsts .entry)) (now (seconds .entry)) r u v ⌝ }
 {
-    let mut q = r;
+    if firsts.len() <= r {
+        return RowFound::NoRow;
+    }
+    let mut q = r + 1;
     while q < firsts.len() {
-        q += 1;
-        if q < firsts.len() {
-            if joins(firsts, seconds, q, u, v) {
-                return RowFound::Row(q);
-            }
+        if joins(firsts, seconds, q, u, v) {
+            return RowFound::Row(q);
         }
+        q += 1;
     }
     RowFound::NoRow
 }

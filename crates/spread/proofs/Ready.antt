@@ -17,6 +17,8 @@ pub record Charted (g : Graph) (nb : List ℕ) (limit : ℕ) : Type 0 where
   pub low : (v : ℕ) → v ∈ g .nodes → v ≤ limit
   pub small : limit < 64
   pub joined : (u v : ℕ) → u ∈ g .nodes → v ∈ g .nodes → T (has (getD nb u 0) v) ↔ ((r : ℕ) × (r < length (g .firstEnds)) × Joins g r u v)
+  -- the word at place 0, which is no node, has every node to which a row leads
+  pub ends : (u v : ℕ) → v ∈ g .nodes → (r : ℕ) × (r < length (g .firstEnds)) × Joins g r u v → T (has (getD nb 0 0) v)
 
 -- a sound state of the graph, and `fresh` its nodes that are not entered
 pub record Ready (g : Graph) (s : State) (fresh : ℕ) : Type 0 where

@@ -12,12 +12,15 @@ use borrow.Author.Tests.{eq-eqb, le-ltb, lt-ltb, ne-eqb}
 use Rattle.lists.proofs.Tests.{T-false, T-true, decide, eq→eqb, pick-elim}
 use Rattle.words.specs.Words.{above, has}
 use Rattle.words.proofs.Words.{or-assoc, or-le}
-use Rattle.spread.specs.Spread.{bring, neighbourWord, openAt, openFrom, seedsOf, spreadOf, spreadUpTo, sweepFrom, sweepOf, withRow}
+use Rattle.spread.specs.Spread.{bring, joinedTo, neighboursBy, openAt, openFrom, seedsOf, spreadOf, spreadUpTo, sweepFrom, sweepOf, withRow}
 
-pub neighbours-more : (firsts seconds : List ℕ) (u r : ℕ)
-    → withRow (neighbourWord firsts seconds u r) (getD firsts r 0) (getD seconds r 0) u ≡ neighbourWord firsts seconds u (r + 1)
-unfolding neighbourWord
-neighbours-more firsts seconds u r = rw add-one
+-- with the ends a and b of row r joined, the words are those by r + 1 rows
+pub neighbours-more : (firsts seconds : List ℕ) (r a b : ℕ) {none first second third fourth : List ℕ} → none ≡ neighboursBy firsts seconds r
+    → a ≡ getD firsts r 0 → b ≡ getD seconds r 0
+    → first ≡ joinedTo none a b → second ≡ joinedTo first b a → third ≡ joinedTo second 0 a → fourth ≡ joinedTo third 0 b
+    → fourth ≡ neighboursBy firsts seconds (r + 1)
+unfolding neighboursBy withRow
+neighbours-more firsts seconds r a b e p q h i j k = rw add-one (cc)
 
 module _ (nb : List ℕ) (fresh : ℕ) where
   -- The seeds

@@ -3,26 +3,31 @@ use mathlib.Core.List.{List, map}
 use Prim.Native.Nat.{_-_, _^_, suc, zero, ℕ}
 use lib.Bits.{bitAnd, bitOr}
 use lib.Dec.{eqb, ltb}
-use lib.ListN.{getD, length}
+use lib.ListN.{getD, length, set}
 use Rattle.lists.specs.Lists.{pick, range}
 use Rattle.words.specs.Words.{above, bit, has}
 
 -- Neighbours
 
--- a row with the ends a and b leads from u to its other end
-unfoldable pub withRow : ℕ → ℕ → ℕ → ℕ → ℕ
-withRow word a b u = pick (eqb a u) (bitOr word (bit b)) (pick (eqb b u) (bitOr word (bit a)) word)
+-- v becomes a neighbour of u, if u is at most 32
+unfoldable pub joinedTo : List ℕ → ℕ → ℕ → List ℕ
+joinedTo words u v = pick (ltb u 33) (set words u (bitOr (getD words u 0) (bit v))) words
 
--- the nodes that one of the first r rows joins to u
-unfoldable pub neighbourWord : List ℕ → List ℕ → ℕ → ℕ → ℕ
-unfolding withRow
-neighbourWord firsts seconds u zero = 0
-neighbourWord firsts seconds u (suc r) = withRow (neighbourWord firsts seconds u r) (getD firsts r 0) (getD seconds r 0) u
+-- a row with the ends a and b makes each a neighbour of the other; place 0, which is no node, has both
+unfoldable pub withRow : List ℕ → ℕ → ℕ → List ℕ
+unfolding joinedTo
+withRow words a b = joinedTo (joinedTo (joinedTo (joinedTo words a b) b a) 0 a) 0 b
 
--- the neighbours of each node from 0 to 32
+-- by the first r rows
+unfoldable pub neighboursBy : List ℕ → List ℕ → ℕ → List ℕ
+unfolding withRow range
+neighboursBy firsts seconds zero = map (λ u. 0) (range 0 33)
+neighboursBy firsts seconds (suc r) = withRow (neighboursBy firsts seconds r) (getD firsts r 0) (getD seconds r 0)
+
+-- the neighbours of each node from 1 to 32, and at place 0 all ends of rows
 unfoldable pub neighboursOf : List ℕ → List ℕ → List ℕ
-unfolding neighbourWord range
-neighboursOf firsts seconds = map (λ u. neighbourWord firsts seconds u (length firsts)) (range 0 33)
+unfolding neighboursBy
+neighboursOf firsts seconds = neighboursBy firsts seconds (length firsts)
 
 -- The nodes that a legal step enters: from the node at the bound's place those above the bound's node, from later places all.
 

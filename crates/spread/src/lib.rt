@@ -1,44 +1,34 @@
 //! What a growing path still reaches: neighbours, the nodes that a legal step enters, and the spread from there.
 //! Sets of nodes are words (crate words). Each function is equal to its model in specs/Spread.antt.
 ghost use mathlib.Core.Path.{_≡_};
-ghost use Rattle.spread.specs.Spread.{bring as bringOf, neighbourWord, neighboursOf, openAt, seedsOf, spreadOf, sweepOf, withRow};
-ghost use lib.ListN.{length};
+ghost use Rattle.spread.specs.Spread.{bring as bringOf, joinedTo, neighboursOf, openAt, seedsOf, spreadOf, sweepOf};
 
-fn with_row(word: u64, a: u8, b: u8, u: u8) -> u64
-    ensures { λ r. ⌜ r ≡ withRow word a b u ⌝ }
+// Makes v a neighbour of u, if u is at most 32.
+fn join(joined: &mut [u64; 33], u: u8, v: u8)
+    ensures { λ _. ⌜ now (joined .exit) ≡ joinedTo (now (joined .entry)) u v ⌝ }
 {
-    if a == u {
-        return word | words::bit(b);
+    let at = u as usize;
+    if at < 33 {
+        joined[at] = joined[at] | words::bit(v);
     }
-    if b == u {
-        return word | words::bit(a);
-    }
-    word
 }
 
-fn neighbour_word(firsts: &[u8], seconds: &[u8], u: u8) -> u64
-    ensures { λ r. ⌜ r ≡ neighbourWord (now (firsts .entry)) (now (seconds .entry)) u (length (now (firsts .entry))) ⌝ }
-{
-    let mut word: u64 = 0;
-    let mut r: usize = 0;
-    while r < firsts.len() {
-        word = with_row(word, firsts[r], slices::byte_at(seconds, r), u);
-        r += 1;
-    }
-    word
-}
-
-/// For each node from 0 to 32 the nodes that a row joins to it.
+/// For each node from 1 to 32 the nodes that a row joins to it. Place 0, which is no node, has all ends of rows.
 pub fn neighbours(firsts: &[u8], seconds: &[u8]) -> [u64; 33]
     ensures { λ r. ⌜ r ≡ neighboursOf (now (firsts .entry)) (now (seconds .entry)) ⌝ }
 {
-    let mut words = [0u64; 33];
-    let mut u: u8 = 0;
-    while u < 33 {
-        words[u as usize] = neighbour_word(firsts, seconds, u);
-        u += 1;
+    let mut joined = [0u64; 33];
+    let mut r: usize = 0;
+    while r < firsts.len() {
+        let a = firsts[r];
+        let b = slices::byte_at(seconds, r);
+        join(&mut joined, a, b);
+        join(&mut joined, b, a);
+        join(&mut joined, 0, a);
+        join(&mut joined, 0, b);
+        r += 1;
     }
-    words
+    joined
 }
 
 /// The open neighbours of a node: those that are fresh.

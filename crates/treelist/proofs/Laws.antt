@@ -13,19 +13,18 @@ use lib.Seq.{take-all, take-suc, take-suc-set}
 use borrow.Author.Tests.{le-leb, not-false, not-true}
 use Rattle.lists.proofs.Tests.{T-true}
 use Rattle.graph.specs.Graph.{width}
-use Rattle.graph.specs.Paths.{trees}
 use Rattle.checks.specs.Checks.{Ended, firstUnmet}
 use Rattle.checks.proofs.Checks.{met-all}
 use Rattle.checks.proofs.Ended.{checked-answered, ended-answered, unmet-parts}
 use Rattle.costs.specs.Network.{Row}
-use Rattle.network_file.specs.File.{Sizes, fileChecks, openOf, sizesOf}
+use Rattle.network_file.specs.File.{Sizes, fileChecks, networkOf, openOf, sizesOf}
 use Rattle.network_file.proofs.Accepted.{accepted}
 use Rattle.network.specs.Answers.{openedOf, sizesIn}
 use Rattle.network.specs.declared.Header.{Header}
 use Rattle.network.specs.declared.Opened.{Opened}
 use Rattle.network.specs.declared.Opened.the-variants as opened
 use Rattle.pages.specs.Pages.{restAfter}
-use Rattle.operations.specs.Operations.{Fronted, capacity, check, frontCall, frontChecks, graphIn, pageCall, pageChecks, pickCall, someTree, startChecks}
+use Rattle.operations.specs.Operations.{Fronted, capacity, check, frontCall, frontChecks, graphIn, layoutsIn, pageCall, pageChecks, pickCall, someTree, startChecks}
 use Rattle.operations.proofs.Files.{node-count}
 use Rattle.ends.specs.Ends.{endsBy}
 use Rattle.ends.proofs.Ends.{ends-length}
@@ -88,10 +87,10 @@ pub answered-given : {f : List ℕ} {h : Header} {r : PageAnswer} {c : ℕ} {m :
     → r ≡ paged.Trees c m → pagedOf r ≡ pageCall f page [] .outcome → Given f h
 unfolding pageCall pageChecks
 answered-given {f} {h} {r} {c} {m} page met sizes told e =
-    let behindFile = check 12 (someTree (trees (graphIn f))) ∷ check 11 (leb (width (graphIn f)) (length page)) ∷ startChecks (graphIn f) [] in
+    let behindFile = check 12 (someTree (layoutsIn f)) ∷ check 11 (leb (width (graphIn f)) (length page)) ∷ startChecks (networkOf f) [] in
     let all = ended-answered (pageChecks f page []) _ page _ (record { count = c; more = m }) (sym e ∙ ap pagedOf told) .0 in
     let behind = unmet-parts (fileChecks f) behindFile all .1 in
-    record { met = met; sizes = sizes; tree = T-true _ .1 (met-all behindFile .0 behind (check 12 (someTree (trees (graphIn f)))) (here refl)) }
+    record { met = met; sizes = sizes; tree = T-true _ .1 (met-all behindFile .0 behind (check 12 (someTree (layoutsIn f))) (here refl)) }
 
 module _ {f : List ℕ} {h : Header} (g : Given f h) where
   pub given-nodes : (2 ≤ h .n) × (h .n ≤ 32)
@@ -143,7 +142,7 @@ module _ {f : List ℕ} {h : Header} {start page after : List ℕ} {total : ℕ}
   pub not-refused : {number : ℕ} → r ≡ paged.Refused number → ⊥
   not-refused {number} told = never-refused f (call .given .met) (call .given .tree) start page total (call .run) fits after number (ends-as told)
 
-  pub last-page : {c : ℕ} {m : Bool} → r ≡ paged.Trees c m → not m ≡ true → min (total + c) (2 ^ 64 - 1) ≡ min (length (trees (graphIn f))) (2 ^ 64 - 1)
+  pub last-page : {c : ℕ} {m : Bool} → r ≡ paged.Trees c m → not m ≡ true → min (total + c) (2 ^ 64 - 1) ≡ min (length (layoutsIn f)) (2 ^ 64 - 1)
   last-page {c} {m} told none-left =
       all-written f (call .given .met) (call .given .tree) start page total (call .run) fits after c
       (ends-as (told ∙ ap (paged.Trees c) (not-true m none-left)))
@@ -161,7 +160,7 @@ picked n t page low high h = simp (le-leb _ _ low, le-leb _ _ high, le-leb _ _ h
 -- The run goes on after the copy of the last tree of the page: where it stands then, and that fewer trees are left.
 pub copied-on : {f start page : List ℕ} {n total total′ c : ℕ} (tree part : List ℕ) → (2 ≤ n) × (n ≤ 32) → More f start page (n - 1) total c
     → part ≡ pickCall n page (c - 1) → (length part ≤ 31 → take (length part) tree ≡ part) → total′ ≡ min (total + c) (2 ^ 64 - 1)
-    → Run f (take (n - 1) tree) total′ × (length (restAfter (trees (graphIn f)) (take (n - 1) tree)) < length (restAfter (trees (graphIn f)) start))
+    → Run f (take (n - 1) tree) total′ × (length (restAfter (layoutsIn f) (take (n - 1) tree)) < length (restAfter (layoutsIn f) start))
 copied-on {f} {start} {page} {n} {total} {total′} {c} tree part (low, high) more e copied held =
     let some-written = more .some-written in
     let next : suc (c - 1) ≡ c = omega arith in

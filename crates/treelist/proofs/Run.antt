@@ -14,15 +14,14 @@ use borrow.Author.Tests.{le-ltb, ltb-false, ltb-true}
 use Rattle.lists.proofs.Ascending.{at-getD}
 use Rattle.lists.proofs.Members.{_∈_, drop-out, take-out}
 use Rattle.graph.specs.Graph.{width}
-use Rattle.graph.specs.Paths.{trees}
-use Rattle.graph.proofs.Trees.{trees-distinct, trees-length}
+use Rattle.graph.proofs.Parts.{Part, part-distinct, part-length}
 use Rattle.checks.specs.Checks.{Ended, Outcome, answered, firstUnmet, refused}
 use Rattle.network_file.specs.File.{fileChecks}
 use Rattle.network_file.proofs.Accepted.{accepted}
 use Rattle.pages.specs.Pages.{flat, lastOf, moreAfter, pageAfter, pageCount, restAfter}
 use Rattle.pages.proofs.Pages.{lastOf-at, length-pageAfter, restAfter-drop}
-use Rattle.operations.specs.Operations.{Paged, graphIn, pageCall, someTree}
-use Rattle.operations.proofs.Files.{several}
+use Rattle.operations.specs.Operations.{Paged, graphIn, layoutsIn, pageCall, someTree}
+use Rattle.operations.proofs.Files.{layouts-in, several}
 use Rattle.operations.proofs.Runs.{page-call}
 
 -- tree i of a page that begins with trees of w rows
@@ -54,8 +53,8 @@ full-page w page rest pos room more =
 -- The run so far: the first `written` trees, the last of which is the start of the next call, and the count of them.
 pub record Run (f start : List ℕ) (total : ℕ) : Type 0 where
   pub written : ℕ
-  pub few : written ≤ length (trees (graphIn f))
-  pub last : start ≡ lastOf (take written (trees (graphIn f)))
+  pub few : written ≤ length (layoutsIn f)
+  pub last : start ≡ lastOf (take written (layoutsIn f))
   pub count : total ≡ min written (2 ^ 64 - 1)
 
 -- no tree is written at first
@@ -67,19 +66,22 @@ pub record More (f start page : List ℕ) (w total c : ℕ) : Type 0 where
   pub some-written : 0 < c
   pub within : c * w ≤ length page
   pub run : Run f (take w (drop ((c - 1) * w) page)) (min (total + c) (2 ^ 64 - 1))
-  pub fewer : length (restAfter (trees (graphIn f)) (take w (drop ((c - 1) * w) page))) < length (restAfter (trees (graphIn f)) start)
+  pub fewer : length (restAfter (layoutsIn f) (take w (drop ((c - 1) * w) page))) < length (restAfter (layoutsIn f) start)
 
 -- what an answer says; a refusal says nothing
 abbrev pagedIn : Outcome Paged → Paged
 pagedIn (refused e) = record { count = 0; more = false }
 pagedIn (answered a) = a
 
-module _ (f : List ℕ) (ok : firstUnmet (fileChecks f) ≡ none) (tree : T (someTree (trees (graphIn f)))) where
+module _ (f : List ℕ) (ok : firstUnmet (fileChecks f) ≡ none) (tree : T (someTree (layoutsIn f))) where
   abbrev w : ℕ
   w = width (graphIn f)
 
   abbrev L : List (List ℕ)
-  L = trees (graphIn f)
+  L = layoutsIn f
+
+  part : Part (graphIn f) (layoutsIn f)
+  part = layouts-in f (accepted f ok)
 
   wide : 0 < pred (length (graphIn f .nodes))
   wide = omega (arith, several f (accepted f ok))
@@ -89,7 +91,7 @@ module _ (f : List ℕ) (ok : firstUnmet (fileChecks f) ≡ none) (tree : T (som
 
   -- after the first k trees the others are left
   left-is : (k : ℕ) → k ≤ length L → left k ≡ drop k L
-  left-is k h = restAfter-drop w L wide (trees-distinct (graphIn f)) (trees-length (graphIn f)) k h
+  left-is k h = restAfter-drop w L wide (part-distinct part) (part-length part) k h
 
   -- the call after the first k trees
   abbrev answerOf : List ℕ → List (List ℕ) → Ended Paged (List ℕ)
@@ -115,7 +117,7 @@ module _ (f : List ℕ) (ok : firstUnmet (fileChecks f) ≡ none) (tree : T (som
       let in-list : p ≡ lastOf (take (suc (k + i)) L) =
       Option·some-injective _ _ (sym (at-getD L (k + i) [] (omega arith)) ∙ lastOf-at L (k + i) (omega arith)) in
       let upTo : suc (k + i) ≡ k + c = omega arith in
-      tree-at w (take c rest) (drop (c * w) page) i p (λ q m. trees-length (graphIn f) q (drop-out k L (take-out c rest m))) in-page
+      tree-at w (take c rest) (drop (c * w) page) i p (λ q m. part-length part q (drop-out k L (take-out c rest m))) in-page
       ∙ in-list
       ∙ ap (λ (j : ℕ). lastOf (take j L)) upTo
 
@@ -153,7 +155,7 @@ module _ (f : List ℕ) (ok : firstUnmet (fileChecks f) ≡ none) (tree : T (som
         let size = length-drop k L in
         let few : k + pageCount w page rest ≤ length L = omega (arith, run .few) in
         let last = last-written k page (run .few) some-written in
-        let kept = length-pageAfter w page rest (λ p m. trees-length (graphIn f) p (drop-out k L m)) in
+        let kept = length-pageAfter w page rest (λ p m. part-length part p (drop-out k L m)) in
         let now : length (left (k + pageCount w page rest)) ≡ length L - (k + pageCount w page rest) =
         ap length (left-is (k + pageCount w page rest) few) ∙ length-drop (k + pageCount w page rest) L in
         let before : length (restAfter L start) ≡ length rest = ap (λ (p : List ℕ). length (restAfter L p)) (run .last) ∙ ap length (left-is k (run .few)) in

@@ -4,10 +4,10 @@ ghost use mathlib.Core.Path.{_≡_};
 ghost use mathlib.Core.List.{[]};
 ghost use Prim.Native.Nat.{_*_, _+_, _-_, _^_, _≤_, min};
 ghost use lib.ListN.{length, replicate, take};
-ghost use Rattle.graph.specs.Paths.{trees};
-ghost use Rattle.operations.specs.Operations.{graphIn, pageCall};
+ghost use Rattle.operations.specs.Operations.{layoutsIn, pageCall};
 ghost use Rattle.page.specs.Answers.{pagedOf};
 ghost use Rattle.treelist.specs.Given.{Given};
+use ends::Rows;
 use front::FrontAnswer;
 use libc::STDIN_FILENO;
 use network::Header;
@@ -122,7 +122,7 @@ fn by_value(places: &[u16]) -> [u16; 31]
 // The pages one after the other, each after the last tree of the one before; answers how many trees there are.
 fn print_list(file: &[u8], firsts: &[u8], seconds: &[u8], h: Header, page: &mut [u16]) -> u64
     requires { ⌜ Given (now file) h × (h .n - 1 ≤ length (now page)) ⌝ }
-    ensures { λ r. ⌜ r ≡ min (length (trees (graphIn (now (file .entry))))) (2 ^ 64 - 1) ⌝ }
+    ensures { λ r. ⌜ r ≡ min (length (layoutsIn (now (file .entry)))) (2 ^ 64 - 1) ⌝ }
 {
     let n = h.n;
     let k = h.k as usize;
@@ -205,8 +205,9 @@ fn print_network(file: &[u8], h: Header)
 {
     let m = h.m as usize;
     print_sizes(h);
-    let firsts = ends::first_ends(file);
-    let seconds = ends::second_ends(file);
+    let all = ends::ends_of(file, Rows::All);
+    let firsts = all.firsts;
+    let seconds = all.seconds;
     let mut trees = page_space();
     let page: &mut [u16] = &mut trees;
     let places = 64 * (h.n as usize - 1);

@@ -4,14 +4,14 @@ use mathlib.Core.Bool.{false, true}
 use mathlib.Core.List.{List, [], _∷_}
 use Prim.Native.Nat.{ℕ}
 use lib.ListN.{replicate}
-use Rattle.lists.specs.Lists.{any, filterB, first, insert, largest, member, same, sequences, sort, sum}
+use Rattle.lists.specs.Lists.{all, any, filterB, first, insert, largest, member, same, sequences, sort, sum}
 use Rattle.graph.specs.Graph.{isTree, runs}
 use Rattle.graph.specs.Paths.{ascending, isMinimal, keysLess, placeOf, stepOf, stepsFrom, trees}
 use Rattle.checks.specs.Checks.{Ended, Outcome, answered, checked, ended, firstUnmet, refused}
 use Rattle.costs.specs.Costs.{costOf, frontOf, noneLarger, once, someSmaller, vectorLess}
 use Rattle.network_file.specs.File.{fileChecks, networkOf, openOf}
 use Rattle.pages.specs.Pages.{flat}
-use Rattle.operations.specs.Operations.{Fronted, Paged, Reached, capacity, costCall, costChecks, drawnChecks, frontCall, frontChecks, orderCall, orderChecks, pageCall, pageChecks, pickCall, reachCall, reachedNodes, startChecks, wordOf}
+use Rattle.operations.specs.Operations.{Fronted, Paged, Reached, capacity, costCall, costChecks, drawnChecks, frontCall, frontChecks, orderCall, orderChecks, pageCall, pageChecks, pickCall, reachCall, reachedNodes, startChecks, treeChecks, wordOf}
 use Rattle.examples.specs.Trials.{fileA}
 use Rattle.trials.specs.Files.{filled, numberOf}
 
@@ -38,24 +38,24 @@ unfolding filled
 network-a = refl
 
 reached-a : reachCall fileA ≡ answered (record { word = 7; size = 3 })
-unfolding any filterB sum runs firstUnmet checked networkOf fileChecks reachedNodes wordOf reachCall
+unfolding all any filterB sum runs firstUnmet checked networkOf fileChecks reachedNodes wordOf reachCall
 reached-a = refl
 
 ordered-2-0 : orderCall fileA (2 ∷ 0 ∷ []) (9 ∷ 9 ∷ 9 ∷ []) ≡ record { outcome = answered tt; buffers = 0 ∷ 2 ∷ 9 ∷ [] }
-unfolding filterB insert sort sequences member placeOf stepOf stepsFrom ascending keysLess isMinimal first isTree trees firstUnmet checked ended networkOf fileChecks drawnChecks orderChecks orderCall
+unfolding all filterB insert sort sequences member placeOf stepOf stepsFrom ascending keysLess isMinimal first isTree trees firstUnmet checked ended networkOf fileChecks treeChecks drawnChecks orderChecks orderCall
 ordered-2-0 = refl
 
 ordered-0-1 : (buffer : List ℕ) → orderCall fileA (0 ∷ 1 ∷ []) buffer ≡ record { outcome = refused 10; buffers = buffer }
-unfolding filterB insert sort sequences member placeOf stepOf stepsFrom ascending keysLess isMinimal first isTree trees firstUnmet checked ended networkOf fileChecks drawnChecks orderChecks orderCall
+unfolding all filterB insert sort sequences member placeOf stepOf stepsFrom ascending keysLess isMinimal first isTree trees firstUnmet checked ended networkOf fileChecks treeChecks drawnChecks orderChecks orderCall
 ordered-0-1 buffer = refl
 
 costed-2-0 : costCall fileA (2 ∷ 0 ∷ []) (0 ∷ 0 ∷ []) ≡ record { outcome = answered tt; buffers = 9 ∷ 7 ∷ [] }
-unfolding sum largest member isTree costOf firstUnmet checked ended networkOf fileChecks drawnChecks costChecks costCall
+unfolding all sum largest filterB member isTree costOf firstUnmet checked ended networkOf fileChecks treeChecks drawnChecks costChecks costCall
 costed-2-0 = refl
 
 paged-a : pageCall fileA (replicate 8 0) []
     ≡ record { outcome = answered (record { count = 4; more = true }); buffers = 0 ∷ 2 ∷ 0 ∷ 3 ∷ 1 ∷ 2 ∷ 1 ∷ 3 ∷ [] }
-unfolding filterB insert sort sequences member placeOf stepOf stepsFrom ascending keysLess isMinimal trees flat firstUnmet checked ended networkOf fileChecks startChecks pageChecks pageCall
+unfolding all filterB insert sort sequences member placeOf stepOf stepsFrom ascending keysLess isMinimal trees flat firstUnmet checked ended networkOf fileChecks startChecks pageChecks pageCall
 paged-a = refl
 
 picked-a : pickCall 3 (0 ∷ 2 ∷ 0 ∷ 3 ∷ 1 ∷ 2 ∷ 1 ∷ 3 ∷ []) 1 ≡ 0 ∷ 3 ∷ []
@@ -63,12 +63,12 @@ unfolding pickCall
 picked-a = refl
 
 fronted-1 : frontCall fileA (0 ∷ 0 ∷ []) (0 ∷ 0 ∷ []) ≡ record { outcome = answered (record { count = 1; whole = false }); buffers = 7 ∷ 7 ∷ [] }
-unfolding any same sum largest filterB insert sort sequences member placeOf stepOf stepsFrom ascending keysLess isMinimal trees costOf noneLarger someSmaller vectorLess once frontOf flat firstUnmet checked ended networkOf fileChecks capacity frontChecks frontCall
+unfolding all any same sum largest filterB insert sort sequences member placeOf stepOf stepsFrom ascending keysLess isMinimal trees costOf noneLarger someSmaller vectorLess once frontOf flat firstUnmet checked ended networkOf fileChecks capacity frontChecks frontCall
 fronted-1 = refl
 
 fronted-3 : frontCall fileA (replicate 6 0) (replicate 6 0)
     ≡ record { outcome = answered (record { count = 3; whole = true }); buffers = 7 ∷ 7 ∷ 8 ∷ 6 ∷ 11 ∷ 5 ∷ [] }
-unfolding any same sum largest filterB insert sort sequences member placeOf stepOf stepsFrom ascending keysLess isMinimal trees costOf noneLarger someSmaller vectorLess once frontOf flat firstUnmet checked ended networkOf fileChecks capacity frontChecks frontCall
+unfolding all any same sum largest filterB insert sort sequences member placeOf stepOf stepsFrom ascending keysLess isMinimal trees costOf noneLarger someSmaller vectorLess once frontOf flat firstUnmet checked ended networkOf fileChecks capacity frontChecks frontCall
 fronted-3 = refl
 
 module _ {f : List ℕ} (e : f ≡ fileA) where
@@ -106,5 +106,18 @@ module _ {f : List ℕ} (e : f ≡ fileA) where
 -- Page, where n = 2 and m = 0
 
 pub page-apart : pageCall (1 ∷ 0 ∷ 0 ∷ 0 ∷ 5 ∷ 2 ∷ 0 ∷ 0 ∷ 1 ∷ 0 ∷ []) (0 ∷ []) [] ≡ record { outcome = refused 12; buffers = 0 ∷ [] }
-unfolding filterB insert sort sequences isMinimal trees firstUnmet checked ended networkOf fileChecks startChecks pageChecks pageCall
+unfolding all filterB insert sort sequences isMinimal trees firstUnmet checked ended networkOf fileChecks startChecks pageChecks pageCall
 page-apart = refl
+
+-- Version 2, with one row, barred
+
+abbrev pub barredFile : List ℕ
+barredFile = 2 ∷ 0 ∷ 0 ∷ 0 ∷ 14 ∷ 2 ∷ 0 ∷ 1 ∷ 1 ∷ 0 ∷ 1 ∷ 2 ∷ 0 ∷ 0 ∷ 2 ∷ 0 ∷ 0 ∷ 0 ∷ 0 ∷ []
+
+pub page-barred : pageCall barredFile (0 ∷ []) [] ≡ record { outcome = refused 12; buffers = 0 ∷ [] }
+unfolding all filterB insert sort sequences member placeOf stepOf stepsFrom ascending keysLess isMinimal trees firstUnmet checked ended networkOf fileChecks startChecks pageChecks pageCall
+page-barred = refl
+
+pub order-barred : orderCall barredFile (0 ∷ []) (0 ∷ []) ≡ record { outcome = refused 15; buffers = 0 ∷ [] }
+unfolding all filterB insert sort sequences member placeOf stepOf stepsFrom ascending keysLess isMinimal first isTree trees firstUnmet checked ended networkOf fileChecks treeChecks drawnChecks orderChecks orderCall
+order-barred = refl

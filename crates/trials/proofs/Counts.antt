@@ -11,17 +11,17 @@ use lib.Dec.{T, ltb}
 use lib.ListN.{drop, length, length-drop, length-take, take}
 use lib.Seq.{drop-drop, take-add}
 use borrow.Author.Tests.{le-ltb}
-use Rattle.lists.specs.Lists.{filterB, insert, member, pick, sequences, sort}
+use Rattle.lists.specs.Lists.{all, filterB, insert, member, pick, sequences, sort}
 use Rattle.graph.specs.Graph.{width}
 use Rattle.graph.specs.Paths.{ascending, isMinimal, keysLess, placeOf, stepOf, stepsFrom, trees}
-use Rattle.graph.proofs.Trees.{trees-distinct, trees-length}
+use Rattle.graph.proofs.Parts.{Part, part-distinct, part-length}
 use Rattle.checks.specs.Checks.{Ended, Outcome, answered, firstUnmet}
 use Rattle.network_file.specs.File.{fileChecks, networkOf}
 use Rattle.network_file.proofs.Accepted.{accepted}
 use Rattle.pages.specs.Pages.{answer, lastOf, pageAfter, pageCount, pieces, restAfter}
 use Rattle.pages.proofs.Pages.{readBack-is, restAfter-drop}
-use Rattle.operations.specs.Operations.{Paged, graphIn, pageCall, someTree}
-use Rattle.operations.proofs.Files.{several}
+use Rattle.operations.specs.Operations.{Paged, graphIn, layoutsIn, pageCall, someTree}
+use Rattle.operations.proofs.Files.{layouts-in, several}
 use Rattle.operations.proofs.Runs.{callIn, page-call}
 use Rattle.trials.specs.Files.{filled}
 
@@ -30,14 +30,14 @@ use Rattle.trials.specs.Files.{filled}
 pub record Counted (f : List ℕ) (w s : ℕ) : Type 0 where
   pub ok : firstUnmet (fileChecks f) ≡ none
   pub wide : width (graphIn f) ≡ w
-  pub size : length (trees (graphIn f)) ≡ s
+  pub size : length (layoutsIn f) ≡ s
 
 -- all pairs of four nodes, and of five
 abbrev pub four : List ℕ
 four = filled (1 ∷ 0 ∷ 0 ∷ 0 ∷ 53 ∷ 4 ∷ 0 ∷ 6 ∷ 1 ∷ 0 ∷ []) (1 ∷ 2 ∷ 1 ∷ 3 ∷ 1 ∷ 4 ∷ 2 ∷ 3 ∷ 2 ∷ 4 ∷ 3 ∷ 4 ∷ []) (0 ∷ []) 1 58
 
 pub four-counted : Counted four 3 16
-unfolding filled filterB insert sort sequences member placeOf stepOf stepsFrom ascending keysLess isMinimal trees firstUnmet networkOf fileChecks
+unfolding filled all filterB insert sort sequences member placeOf stepOf stepsFrom ascending keysLess isMinimal trees firstUnmet networkOf fileChecks
 four-counted = record { ok = refl; wide = refl; size = refl }
 
 abbrev pub five : List ℕ
@@ -46,7 +46,7 @@ five =
     (1 ∷ 2 ∷ 1 ∷ 3 ∷ 1 ∷ 4 ∷ 1 ∷ 5 ∷ 2 ∷ 3 ∷ 2 ∷ 4 ∷ 2 ∷ 5 ∷ 3 ∷ 4 ∷ 3 ∷ 5 ∷ 4 ∷ 5 ∷ []) (0 ∷ []) 1 90
 
 pub five-counted : Counted five 4 125
-unfolding filled filterB insert sort sequences member placeOf stepOf stepsFrom ascending keysLess isMinimal trees firstUnmet networkOf fileChecks
+unfolding filled all filterB insert sort sequences member placeOf stepOf stepsFrom ascending keysLess isMinimal trees firstUnmet networkOf fileChecks
 five-counted = record { ok = refl; wide = refl; size = refl }
 
 -- Lists of trees
@@ -72,19 +72,22 @@ last-piece w (suc n) page =
 
 -- the tree to start after
 abbrev pub after : List ℕ → ℕ → List ℕ
-after f k = lastOf (take k (trees (graphIn f)))
+after f k = lastOf (take k (layoutsIn f))
 
 module _ {g : List ℕ} {w s : ℕ} (c : Counted g w s) (k : ℕ) (few : k < s) (page : List ℕ) (room : w ≤ length page)
     {f start : List ℕ} (same : f ≡ g) (here : start ≡ after g k) {o : Outcome Paged} {b : List ℕ}
     (r : record { outcome = o; buffers = b } ≡ pageCall f page start) where
   abbrev L : List (List ℕ)
-  L = trees (graphIn g)
+  L = layoutsIn g
 
   abbrev W : ℕ
   W = width (graphIn g)
 
   abbrev rest : List (List ℕ)
   rest = drop k L
+
+  part : Part (graphIn g) (layoutsIn g)
+  part = layouts-in g (accepted g (c .ok))
 
   pos : 0 < pred (length (graphIn g .nodes))
   pos = omega (arith, several g (accepted g (c .ok)))
@@ -97,7 +100,7 @@ module _ {g : List ℕ} {w s : ℕ} (c : Counted g w s) (k : ℕ) (few : k < s) 
       ∙ page-call g (c .ok) (some-in L (omega arith)) k (omega arith) page
       ∙ ap (λ (t : Bool). callIn page (pick t none (some (answer W page (restAfter L (after g k)))))) (le-ltb (length page) W (omega arith))
       ∙ ap (λ (l : List (List ℕ)). callIn page (some (answer W page l)))
-      (restAfter-drop W L pos (trees-distinct (graphIn g)) (trees-length (graphIn g)) k (omega arith))
+      (restAfter-drop W L pos (part-distinct part) (part-length part) k (omega arith))
 
   left : length rest ≡ s - k
   left = length-drop k L ∙ ap (λ (n : ℕ). n - k) (c .size)
@@ -120,7 +123,7 @@ module _ {g : List ℕ} {w s : ℕ} (c : Counted g w s) (k : ℕ) (few : k < s) 
       ∙ sym (last-piece W n b)
       ∙ ap (λ (x : Ended Paged (List ℕ)). lastOf (pieces W (suc n) (x .buffers))) called
       ∙ ap (λ (m : ℕ). lastOf (pieces W m (pageAfter W page rest))) (sym full)
-      ∙ ap lastOf (readBack-is W L pos (trees-distinct (graphIn g)) (trees-length (graphIn g)) k page)
+      ∙ ap lastOf (readBack-is W L pos (part-distinct part) (part-length part) k page)
       ∙ ap (λ (m : ℕ). lastOf (take m rest)) full
       ∙ sym (last-append (take k L) (take (suc n) rest) (omega (arith, length-take (suc n) rest, left, e)))
       ∙ ap lastOf (sym (take-add k (suc n) L))

@@ -1,4 +1,4 @@
-//! Document 01's trials that are not starred, and some of the others, each worked by the code.
+//! Document 01's trials that are not starred, some of the others and some of version 2, each worked by the code.
 ghost use mathlib.Core.Path.{_≡_};
 ghost use Prim.Native.Nat.{_<_, _≤_};
 ghost use lib.ListN.{length};
@@ -259,6 +259,17 @@ fn no_rows() {
     check::expect(page_number(page::page(&file, &mut places, &[])) == 12);
 }
 
+// Version 2, with one row: a state of 3; and barred, so that there is no tree, and the row is drawn in vain.
+fn states() {
+    check::expect(opened(&[2, 0, 0, 0, 14, 2, 0, 1, 1, 0, 1, 2, 0, 0, 3, 0, 0, 0, 0]) == 14);
+    let barred = [2, 0, 0, 0, 14, 2, 0, 1, 1, 0, 1, 2, 0, 0, 2, 0, 0, 0, 0];
+    check::expect(opened(&barred) == 0);
+    let mut places = [0; 1];
+    check::expect(page_number(page::page(&barred, &mut places, &[])) == 12);
+    let mut path = [0; 1];
+    check::expect(order_number(order::order(&barred, &[0], &mut path)) == 15);
+}
+
 // Four nodes and all six pairs, in pages of ten trees.
 fn four_nodes() {
     let mut file = [0; 58];
@@ -306,6 +317,7 @@ fn main() {
     picks(&file);
     fronts(&file);
     no_rows();
+    states();
     four_nodes();
     five_nodes();
 }

@@ -19,7 +19,7 @@ use Rattle.graph.specs.Paths.{Key}
 use Rattle.costs.specs.Costs.{addedCost, costAt, inStreet, streetCost, worstCost}
 use Rattle.costs.specs.Network.{Network, rowAt}
 use Rattle.bounds.proofs.Limits.{added-most}
-use Rattle.network_file.specs.File.{Sizes, byteAt, kindOf, networkOf, rowIn, rowStart, sizesOf, u16At, u32At}
+use Rattle.network_file.specs.File.{Sizes, byteAt, kindOf, networkOf, rowIn, rowStart, sizesOf, stateWidth, u16At, u32At}
 use Rattle.network_file.proofs.Accepted.{row-in, row-past}
 use Rattle.network.specs.Answers.{kindIn}
 use Rattle.network.specs.declared.ByteKind.{ByteKind}
@@ -115,8 +115,8 @@ module _ (f : List ℕ) (bytes : (i : ℕ) → Fits w8 (byteAt f i)) where
   unfolding rowIn
   cost-word c r = elim (decLt r (sizesOf f .m)) [
     | yes h ↦ rw (row-in f r h) (elim (decLt c (sizesOf f .k)) [
-      | yes l ↦ rw (getD-map-range (λ c. u32At f (rowStart f r + 4 + 4 * c)) (sizesOf f .k) c 0 l) (word _)
-      | no l ↦ rw (getD-map-past (λ c. u32At f (rowStart f r + 4 + 4 * c)) (sizesOf f .k) c 0 (omega arith)) (omega arith)
+      | yes l ↦ rw (getD-map-range (λ c. u32At f (rowStart f r + 4 + stateWidth f + 4 * c)) (sizesOf f .k) c 0 l) (word _)
+      | no l ↦ rw (getD-map-past (λ c. u32At f (rowStart f r + 4 + stateWidth f + 4 * c)) (sizesOf f .k) c 0 (omega arith)) (omega arith)
     ])
     | no h ↦ rw (row-past f r (omega arith)) (omega arith)
   ]

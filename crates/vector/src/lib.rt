@@ -36,8 +36,7 @@ fn cost_of(file: &[u8], criterion: usize, path: Path, i: usize) -> u64
 fn street_of(file: &[u8], path: Path, i: usize) -> u16
     ensures { λ r. ⌜ r ≡ rowAt (networkOf (now (file .entry))) (stepRow (rowsIn path) i) .street ⌝ }
 {
-    let at = network::row_at(file, row_of(path, i));
-    at.street
+    network::street_at(file, row_of(path, i))
 }
 
 /// The sum over the rows.

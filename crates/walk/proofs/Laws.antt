@@ -10,10 +10,12 @@ use lib.Bits.{bitOr}
 use lib.ListN.{getD, length, length-take, take}
 use lib.Seq.{take-length, take-take}
 use Rattle.graph.specs.Paths.{Key}
+use Rattle.states.specs.States.{mustRow}
 use Rattle.words.specs.Words.{bit, minus}
 use Rattle.search.specs.Search.{nextRowOf, orElse}
 use Rattle.paths.specs.Path.{enteredBy, extendedBy, noKey}
-use Rattle.grow.specs.Grow.{freshAfter, growOf, openPast}
+use Rattle.grow.specs.Grow.{freshAfter, openPast}
+use Rattle.grow.specs.Musts.{growWith}
 use Rattle.walk.specs.Walk.{afterFrom, afterOf, nextOf, skipBy, skipOf}
 use Rattle.walk.specs.declared.Next.{Next}
 
@@ -22,47 +24,52 @@ take-min n l =
     let e = length-take n l in
     ap (λ (m : ℕ). take m l) (sym e) ∙ sym (take-take (length (take n l)) n l (omega arith)) ∙ take-length (take n l)
 
-module _ (nb firsts seconds : List ℕ) (limit plant : ℕ) where
+module _ (nb firsts seconds mustNb mustFirsts mustSeconds : List ℕ) (limit plant : ℕ) where
   -- One step
 
   module _ (steps fresh : ℕ) (keys : List Key) (k : Key) where
     abbrev beside : Option ℕ
     beside = nextRowOf firsts seconds (k .row) (getD (enteredBy plant keys) (k .place) 0) (k .node)
 
-    pub skip-row : (left r : ℕ) → left ≡ steps - 1 → k .place < 256 → beside ≡ some r
-        → some (growOf nb firsts seconds limit plant left (minus fresh (bit (k .node)))
+    -- a must row is not given up
+    pub skip-must : mustRow mustFirsts (k .row) ≡ true → none ≡ skipOf nb firsts seconds mustNb mustFirsts mustSeconds limit plant steps fresh keys k
+    unfolding skipOf
+    skip-must t = rw t
+
+    pub skip-row : (left r : ℕ) → mustRow mustFirsts (k .row) ≡ false → left ≡ steps - 1 → k .place < 256 → beside ≡ some r
+        → some (growWith nb firsts seconds mustNb mustFirsts mustSeconds limit plant left (minus fresh (bit (k .node)))
         (extendedBy keys (record { place = k .place; node = k .node; row = r % 65536 })) (k .place) (k .node))
-        ≡ skipOf nb firsts seconds limit plant steps fresh keys k
+        ≡ skipOf nb firsts seconds mustNb mustFirsts mustSeconds limit plant steps fresh keys k
     unfolding skipOf skipBy
-    skip-row left r e h o = rw (o, e, mod-eq-of-lt h)
+    skip-row left r free e h o = rw (free, o, e, mod-eq-of-lt h)
 
-    pub skip-on : beside ≡ none → openPast nb limit plant fresh keys (k .place) (k .node) ≡ true
-        → some (growOf nb firsts seconds limit plant steps fresh keys (k .place) (k .node)) ≡ skipOf nb firsts seconds limit plant steps fresh keys k
+    pub skip-on : mustRow mustFirsts (k .row) ≡ false → beside ≡ none → openPast nb limit plant fresh keys (k .place) (k .node) ≡ true
+        → some (growWith nb firsts seconds mustNb mustFirsts mustSeconds limit plant steps fresh keys (k .place) (k .node)) ≡ skipOf nb firsts seconds mustNb mustFirsts mustSeconds limit plant steps fresh keys k
     unfolding skipOf skipBy
-    skip-on o t = rw (o, t)
+    skip-on free o t = rw (free, o, t)
 
-    pub skip-none : beside ≡ none → openPast nb limit plant fresh keys (k .place) (k .node) ≡ false → none ≡ skipOf nb firsts seconds limit plant steps fresh keys k
+    pub skip-none : mustRow mustFirsts (k .row) ≡ false → beside ≡ none → openPast nb limit plant fresh keys (k .place) (k .node) ≡ false → none ≡ skipOf nb firsts seconds mustNb mustFirsts mustSeconds limit plant steps fresh keys k
     unfolding skipOf skipBy
-    skip-none o t = rw (o, t)
+    skip-none free o t = rw (free, o, t)
 
   -- The walk back
 
   pub after-start : (nodes width len i : ℕ) (keys : List Key) → i ≡ min len (length keys)
-      → afterOf nb firsts seconds limit plant nodes width keys len ≡ afterFrom nb firsts seconds limit plant width i (freshAfter nodes (enteredBy plant (take len keys))) keys
+      → afterOf nb firsts seconds mustNb mustFirsts mustSeconds limit plant nodes width keys len ≡ afterFrom nb firsts seconds mustNb mustFirsts mustSeconds limit plant width i (freshAfter nodes (enteredBy plant (take len keys))) keys
   unfolding afterOf
   after-start nodes width len i keys e = rw (e, take-min)
 
   pub after-back : (width i fresh steps place node row : ℕ) (keys part : List Key) → 0 < i
       → place ≡ getD keys (i - 1) noKey .place → node ≡ getD keys (i - 1) noKey .node → row ≡ getD keys (i - 1) noKey .row
       → steps ≡ width - (i - 1) → part ≡ take (i - 1) keys
-      → afterFrom nb firsts seconds limit plant width i fresh keys
-      ≡ orElse (skipOf nb firsts seconds limit plant steps (bitOr fresh (bit node)) part (record { place = place; node = node; row = row }))
-      (afterFrom nb firsts seconds limit plant width (i - 1) (bitOr fresh (bit node)) keys)
+      → afterFrom nb firsts seconds mustNb mustFirsts mustSeconds limit plant width i fresh keys
+      ≡ orElse (skipOf nb firsts seconds mustNb mustFirsts mustSeconds limit plant steps (bitOr fresh (bit node)) part (record { place = place; node = node; row = row }))
+      (afterFrom nb firsts seconds mustNb mustFirsts mustSeconds limit plant width (i - 1) (bitOr fresh (bit node)) keys)
   unfolding afterFrom
   after-back width zero fresh steps place node row keys part h a b c d e = absurd (omega arith)
   after-back width (suc i) fresh steps place node row keys part h a b c d e = let one : suc i - 1 ≡ i = omega arith in rw (a, b, c, d, e, one)
 
-  pub after-over : (width i fresh : ℕ) (keys : List Key) → i ≤ 0 → afterFrom nb firsts seconds limit plant width i fresh keys ≡ none
+  pub after-over : (width i fresh : ℕ) (keys : List Key) → i ≤ 0 → afterFrom nb firsts seconds mustNb mustFirsts mustSeconds limit plant width i fresh keys ≡ none
   unfolding afterFrom
   after-over width zero fresh keys h = refl
   after-over width (suc i) fresh keys h = absurd (omega arith)

@@ -1,2 +1,2 @@
-pub mod Behind
 pub mod Laws
+pub mod Behind

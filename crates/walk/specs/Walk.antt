@@ -1,5 +1,5 @@
--- The walk over the list of paths as a computation: the next path behind all that begin alike.
--- `firsts` and `seconds` are the ends of the rows, `nb` the neighbours of each node, `nodes` and `fresh` words: all nodes, and those not entered.
+-- The walk over the paths that have all must rows, as a computation: the next such path behind all that begin alike. A step by a must row is not skipped.
+-- `firsts` and `seconds` are the ends of the rows, `mustFirsts` and `mustSeconds` those of the must rows, `nb` and `mustNb` the neighbours of each node by either.
 use mathlib.Core.Option.{Option, none, some}
 use mathlib.Core.List.{List}
 use Prim.Native.Nat.{_-_, min, suc, zero, ℕ}
@@ -7,26 +7,32 @@ use lib.Bits.{bitOr}
 use lib.ListN.{getD, length, take}
 use Rattle.lists.specs.Lists.{pick}
 use Rattle.graph.specs.Paths.{Key}
+use Rattle.states.specs.States.{mustRow}
 use Rattle.words.specs.Words.{bit, minus}
 use Rattle.search.specs.Search.{nextRowOf, orElse}
 use Rattle.paths.specs.Path.{enteredBy, extendedBy, keysOf, noKey}
-use Rattle.grow.specs.Grow.{freshAfter, growOf, kept, openPast}
+use Rattle.grow.specs.Grow.{freshAfter, kept, openPast}
+use Rattle.grow.specs.Musts.{growWith}
 use Rattle.walk.specs.declared.Next.{Next}
 
 -- what the code answers for a path that may be missing
 abbrev pub nextOf : Next → Option (List Key)
 nextOf n = pick (n .some) (some (keysOf (n .path))) none
 
-module _ (nb firsts seconds : List ℕ) (limit plant : ℕ) where
+module _ (nb firsts seconds mustNb mustFirsts mustSeconds : List ℕ) (limit plant : ℕ) where
   -- The first path behind all that go on from `keys` by the step k: by the next parallel row r, or with the bound moved up to k.
   unfoldable pub skipBy : Option ℕ → ℕ → ℕ → List Key → Key → Option (List Key)
   skipBy (some r) steps fresh keys k = some
-      (growOf nb firsts seconds limit plant (steps - 1) (minus fresh (bit (k .node))) (extendedBy keys (kept (record { place = k .place; node = k .node; row = r }))) (k .place) (k .node))
+      (growWith nb firsts seconds mustNb mustFirsts mustSeconds limit plant (steps - 1) (minus fresh (bit (k .node)))
+      (extendedBy keys (kept (record { place = k .place; node = k .node; row = r }))) (k .place) (k .node))
   skipBy none steps fresh keys k =
-      pick (openPast nb limit plant fresh keys (k .place) (k .node)) (some (growOf nb firsts seconds limit plant steps fresh keys (k .place) (k .node))) none
+      pick (openPast nb limit plant fresh keys (k .place) (k .node))
+      (some (growWith nb firsts seconds mustNb mustFirsts mustSeconds limit plant steps fresh keys (k .place) (k .node))) none
 
   unfoldable pub skipOf : ℕ → ℕ → List Key → Key → Option (List Key)
-  skipOf steps fresh keys k = skipBy (nextRowOf firsts seconds (k .row) (getD (enteredBy plant keys) (k .place) 0) (k .node)) steps fresh keys k
+  unfolding mustRow
+  skipOf steps fresh keys k = pick (mustRow mustFirsts (k .row)) none
+      (skipBy (nextRowOf firsts seconds (k .row) (getD (enteredBy plant keys) (k .place) 0) (k .node)) steps fresh keys k)
 
   -- back along the first i steps, to the last that can be skipped; `fresh` are the nodes not entered after i steps
   unfoldable pub afterFrom : ℕ → ℕ → ℕ → List Key → Option (List Key)

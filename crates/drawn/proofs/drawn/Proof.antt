@@ -1,13 +1,14 @@
--- Open's refusal as it came, or what trying the rows comes to in the network that Open answers (`met`).
+-- Open's refusal as it came, or what trying the rows comes to in the network that Open answers (`met`, `asked`), and then their states.
 use mathlib.Core.Path.{_∙_, _≡_, ap, sym}
 use native.Mathlib.Omega.{arith}
+use borrow.Author.Needs.{needs}
+use borrow.Author.Tests.{not-false, not-true}
 use Rattle.checks.specs.Checks.{answered}
 use Rattle.network_file.specs.File.{openOf}
 use Rattle.network.specs.Answers.{openedOf, sizesIn}
-use Rattle.drawn.specs.Answers.{numberOf}
-use Rattle.drawn.proofs.Answers.{open-stops, opened, tried-drawn}
+use Rattle.drawn.specs.Answers.{drawnOf, numberOf}
+use Rattle.drawn.proofs.Answers.{open-stops, opened, states-broken, states-kept, tree-stops, treeCall, tried-drawn}
 use Rattle.drawn.proofs.Laws.{refusal}
-use borrow.Author.Needs.{needs}
 use Rattle.drawn.proofs.drawn.Statement.{statement}
 use Rattle.drawn.proofs.drawn.Tie as tie
 
@@ -36,11 +37,8 @@ returns c =
 met : (c : tie.After-opened) → openOf (c .before .before .before .before .before .args .file .now) ≡ answered (sizesIn (c .opened .given .0 .0))
 met c = sym (c .before .before .«open» .ensures) ∙ ap openedOf (c .opened .given .1)
 
-first-ends-requires : tie.Need-first-ends-requires
-first-ends-requires c κs = search needs
-
-second-ends-requires : tie.Need-second-ends-requires
-second-ends-requires c κs = search needs
+ends-of-requires : tie.Need-ends-of-requires
+ends-of-requires c κs = search needs
 
 nodes-word-requires : tie.Need-nodes-word-requires
 nodes-word-requires c κs = search needs
@@ -49,16 +47,44 @@ cast-width : tie.Need-cast-width
 cast-width c = search needs
 
 sub-width : tie.Need-sub-width
-sub-width c = omega (arith, opened _ _ (met (c .before .before .before .before .before)) .0)
+sub-width c = omega (arith, opened _ _ (met (c .before .before .before .before .before .before)) .0)
 
 tried-requires : tie.Need-tried-requires
-tried-requires c κs = opened _ _ (met (c .before .before .before .before .before)) .1
+tried-requires c κs = opened _ _ (met (c .before .before .before .before .before .before)) .1
+
+-- the answer to checks 8, 9 and 10
+abbrev header : tie.After-tried → tie.After-opened
+header c = c .before .before .before .before .before .before .before
+
+abbrev called : tie.After-tried → tie.Start
+called c = header c .before .before .before .before .before
+
+asked : (c : tie.After-tried) → drawnOf (c .tried .result) ≡ treeCall (called c .args .file .now) (called c .args .rows .now)
+asked c =
+    let ends = c .before .before .before .before .before .ends-of .ensures in
+    c .tried .ensures ∙ tried-drawn _ _ (met (header c)) _ _ _ _ (ends .0) (ends .1) (c .before .before .nodes-word .ensures)
 
 returns-2 : tie.Need-returns-2
-returns-2 c =
-    c .tried .ensures
-    ∙ (rw (c .before .before .before .before .first-ends .ensures, c .before .before .before .second-ends .ensures, c .before .before .nodes-word .ensures))
-    ∙ tried-drawn _ _ (met (c .before .before .before .before .before .before)) _
+returns-2 c = tree-stops _ _ (met (header (c .before))) _ (c .before .tried .result) (asked (c .before)) (c .if1 .taken)
+
+states-kept-requires : tie.Need-states-kept-requires
+states-kept-requires c κs = search needs
+
+refused-requires-2 : tie.Need-refused-requires-2
+refused-requires-2 c κs = search needs
+
+returns-3 : tie.Need-returns-3
+returns-3 c =
+    let at = c .before .before .before .before in
+    refusal _ 15 (c .refused2 .ensures) (λ e. omega arith)
+    ∙ sym (states-broken _ _ (met (header at)) _ (at .tried .result) (asked at) (c .before .before .before .if1 .left)
+    (sym (c .before .before .states-kept .ensures) ∙ not-true _ (c .before .if2 .taken)))
+
+returns-4 : tie.Need-returns-4
+returns-4 c =
+    let at = c .before .before .before in
+    states-kept _ _ (met (header at)) _ (at .tried .result) (asked at) (c .before .before .if1 .left)
+    (sym (c .before .states-kept .ensures) ∙ not-false _ (c .if2 .left))
 
 pub drawn-spec : {M : Type 1} → statement M
 drawn-spec =
@@ -70,10 +96,13 @@ drawn-spec =
     number-of-requires
     refused-requires
     returns
-    first-ends-requires
-    second-ends-requires
+    ends-of-requires
     nodes-word-requires
     cast-width
     sub-width
     tried-requires
-    returns-2)
+    returns-2
+    states-kept-requires
+    refused-requires-2
+    returns-3
+    returns-4)

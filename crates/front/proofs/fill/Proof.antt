@@ -6,11 +6,17 @@ use Rattle.front.proofs.fill.Tie as tie
 neighbours-requires : tie.Need-neighbours-requires
 neighbours-requires c κs = search needs
 
+neighbours-requires-2 : tie.Need-neighbours-requires-2
+neighbours-requires-2 c κs = search needs
+
 slice-aggregate-passes : tie.Need-slice-aggregate-passes
 slice-aggregate-passes c = search needs
 
+slice-aggregate-passes-2 : tie.Need-slice-aggregate-passes-2
+slice-aggregate-passes-2 c = search needs
+
 passes-requires : tie.Need-passes-requires
-passes-requires c κs = rw (c .before .before .before .neighbours .ensures) (c .before .before .before .before .before .before .before .before .before .pre)
+passes-requires c κs = rw (c .before .before .before .before .before .neighbours .ensures, c .before .before .before .before .neighbours2 .ensures) (c .before .before .before .before .before .before .before .before .before .before .before .before .before .pre)
 
 same-length : tie.Need-same-length
 same-length c = search needs
@@ -26,7 +32,9 @@ fill-spec =
     tie.close
     (tie.spec
     neighbours-requires
+    neighbours-requires-2
     slice-aggregate-passes
+    slice-aggregate-passes-2
     passes-requires
     same-length
     same-length-2

@@ -11,13 +11,13 @@ start-requires c κs = search needs
 fresh-after-requires : tie.Need-fresh-after-requires
 fresh-after-requires c κs = search needs
 
-grown-requires : tie.Need-grown-requires
-grown-requires c κs = search needs
+grown-with-requires : tie.Need-grown-with-requires
+grown-with-requires c κs = search needs
 
 returns : tie.Need-returns
 returns c =
     let at = c .before .before .start .ensures in
-    (c .grown .ensures .0 ∙ at .0, first-grown _ _ _ _ _ _ _ _ _ _ (at .0) (at .1) (c .before .fresh-after .ensures) (c .grown .ensures .1))
+    (c .grown-with .ensures .0 ∙ at .0, first-grown _ _ _ _ _ _ _ _ _ _ _ _ _ (at .0) (at .1) (c .before .fresh-after .ensures) (c .grown-with .ensures .1))
 
 pub first-spec : {M : Type 1} → statement M
-first-spec = tie.close (tie.spec start-requires fresh-after-requires grown-requires returns)
+first-spec = tie.close (tie.spec start-requires fresh-after-requires grown-with-requires returns)

@@ -2,21 +2,21 @@
 use mathlib.Core.Path.{_∙_, ap, sym}
 use native.Mathlib.Omega.{arith}
 use lib.Seq.{length-take-le}
-use Rattle.network.specs.Answers.{sizesIn}
-use Rattle.reach.specs.Answers.{reachedOf}
-use Rattle.front.specs.Answers.{refusedBy}
-use Rattle.front.proofs.Calls.{front-costs, front-file, front-filled, front-none, front-witnesses}
-use Rattle.page.proofs.Given.{Learnt, ends-fit}
-use Rattle.front.proofs.Given.{criteria-some, laid, lent, nodes-several}
 use borrow.Author.Needs.{needs}
+use Rattle.front.specs.Answers.{refusedBy}
+use Rattle.listed.proofs.Answers.{Lists, answered-by, refused-by}
+use Rattle.network.specs.Answers.{openedOf, sizesIn}
+use Rattle.page.proofs.Given.{Read, ends-fit}
+use Rattle.front.proofs.Calls.{front-costs, front-filled, front-stops, front-witnesses}
+use Rattle.front.proofs.Given.{criteria-some, laid, lent, nodes-several}
 use Rattle.front.proofs.front.Statement.{statement}
 use Rattle.front.proofs.front.Tie as tie
 
-reach-requires : tie.Need-reach-requires
-reach-requires c κs = search needs
+listed-requires : tie.Need-listed-requires
+listed-requires c κs = search needs
 
-enum-known-reached : tie.Need-enum-known-reached
-enum-known-reached c = search needs
+enum-known-opened : tie.Need-enum-known-opened
+enum-known-opened c = search needs
 
 enum-told : tie.Need-enum-told
 enum-told c = search needs
@@ -28,42 +28,33 @@ returns : tie.Need-returns
 returns c =
     let a = c .before .before .before .before .before .before .before .args in
     let told = c .before .enum-told .given .1 in
-    rw (c .refused .ensures ∙ ap (λ o. refusedBy (reachedOf o)) told) (front-file (a .file .now) (a .costs .now) (a .witnesses .now) _ (sym (c .before .before .before .reach .ensures) ∙ ap reachedOf told))
+    rw (c .refused .ensures ∙ ap (λ o. refusedBy (openedOf o)) told)
+    (front-stops (a .file .now) (a .costs .now) (a .witnesses .now) _ (refused-by _ _ (sym (c .before .before .before .listed .ensures) ∙ ap openedOf told)))
 
--- what Reach and the header tell
-learnt : (c : tie.After-header-of)
-    → Learnt (c .before .before .before .before .before .before .before .before .args .file .now) (record { word = c .before .before .reached .given .0 .0; size = c .before .before .reached .given .0 .1 .0 }) (sizesIn (c .header-of .result))
-learnt c = record { reached = sym (c .before .before .before .before .reach .ensures) ∙ ap reachedOf (c .before .before .reached .given .1); sizes = c .header-of .ensures }
-
-header-of-requires : tie.Need-header-of-requires
-header-of-requires c κs = search needs
-
-cast-if1 : tie.Need-cast-if1
-cast-if1 c = search needs
-
-returns-2 : tie.Need-returns-2
-returns-2 c = front-none _ _ _ (learnt (c .before)) (c .if1 .taken)
+-- what Open and 12 tell
+lists : (c : tie.After-opened) → Lists (c .before .before .before .before .before .before .args .file .now) (sizesIn (c .opened .given .0 .0))
+lists c = answered-by _ _ (sym (c .before .before .listed .ensures) ∙ ap openedOf (c .opened .given .1))
 
 cast-k : tie.Need-cast-k
 cast-k c = search needs
 
-returns-3 : tie.Need-returns-3
-returns-3 c = front-costs _ _ _ (learnt (c .before .before .before)) (c .before .before .if1 .left) (c .if2 .taken)
+returns-2 : tie.Need-returns-2
+returns-2 c = front-costs _ _ _ (lists (c .before .before .before)) (c .if1 .taken)
 
 cast-width : tie.Need-cast-width
 cast-width c = search needs
 
 sub-width : tie.Need-sub-width
-sub-width c = omega (arith, nodes-several (learnt (c .before .before .before)))
+sub-width c = omega (arith, nodes-several (lists (c .before .before .before)))
 
-returns-4 : tie.Need-returns-4
-returns-4 c = front-witnesses _ _ _ (learnt (c .before .before .before .before)) (c .before .before .before .if1 .left) (c .before .if2 .left) (c .if3 .taken)
+returns-3 : tie.Need-returns-3
+returns-3 c = front-witnesses _ _ _ (lists (c .before .before .before .before)) (c .before .if1 .left) (c .if2 .taken)
 
 div-smaller : tie.Need-div-smaller
-div-smaller c = omega (arith, criteria-some (learnt (c .before .before .before .before)))
+div-smaller c = omega (arith, criteria-some (lists (c .before .before .before .before)))
 
 div-smaller-2 : tie.Need-div-smaller-2
-div-smaller-2 c = omega (arith, nodes-several (learnt (c .before .before .before .before)))
+div-smaller-2 c = omega (arith, nodes-several (lists (c .before .before .before .before)))
 
 smaller-requires : tie.Need-smaller-requires
 smaller-requires c κs = search needs
@@ -71,31 +62,75 @@ smaller-requires c κs = search needs
 cast-m : tie.Need-cast-m
 cast-m c = search needs
 
-first-ends-requires : tie.Need-first-ends-requires
-first-ends-requires c κs = search needs
+ends-of-requires : tie.Need-ends-of-requires
+ends-of-requires c κs = search needs
 
-second-ends-requires : tie.Need-second-ends-requires
-second-ends-requires c κs = search needs
+ends-of-requires-2 : tie.Need-ends-of-requires-2
+ends-of-requires-2 c κs = search needs
 
 nodes-word-requires : tie.Need-nodes-word-requires
 nodes-word-requires c κs = search needs
 
+-- the ends of the rows that are not barred, and of the must rows
+abbrev header : tie.After-ends-of → tie.After-opened
+header c = c .before .before .before .before .before .before .before
+
+abbrev unbarred : tie.After-ends-of2 → tie.After-ends-of
+unbarred c = c .before .before .before
+
 array-share-prefix-firsts : tie.Need-array-share-prefix-firsts
-array-share-prefix-firsts c = ends-fit (learnt (c .before .before .before .before .before .before .before .before .before)) _ _ (c .before .before .first-ends .ensures)
+array-share-prefix-firsts c = let ends = unbarred (c .before .before .before) in ends-fit (lists (header ends)) _ _ (ends .ends-of .ensures .0)
 
 slice-aggregate-fill : tie.Need-slice-aggregate-fill
-slice-aggregate-fill c = sym (length-take-le _ _ (ends-fit (learnt (c .before .before .before .before .before .before .before .before .before .before)) _ _ (c .before .before .before .first-ends .ensures)))
+slice-aggregate-fill c = sym (length-take-le _ _ (array-share-prefix-firsts (c .before)))
 
 array-share-prefix-seconds : tie.Need-array-share-prefix-seconds
-array-share-prefix-seconds c = ends-fit (learnt (c .before .before .before .before .before .before .before .before .before .before)) _ _ (c .before .before .second-ends .ensures)
+array-share-prefix-seconds c = let ends = unbarred (c .before .before .before .before) in ends-fit (lists (header ends)) _ _ (ends .ends-of .ensures .1)
 
 slice-aggregate-fill-2 : tie.Need-slice-aggregate-fill-2
-slice-aggregate-fill-2 c = sym (length-take-le _ _ (ends-fit (learnt (c .before .before .before .before .before .before .before .before .before .before .before)) _ _ (c .before .before .before .second-ends .ensures)))
+slice-aggregate-fill-2 c = sym (length-take-le _ _ (array-share-prefix-seconds (c .before)))
+
+array-share-prefix-heads : tie.Need-array-share-prefix-heads
+array-share-prefix-heads c = let ends = c .before .before .before .before .before in ends-fit (lists (header (unbarred ends))) _ _ (ends .ends-of2 .ensures .0)
+
+slice-aggregate-fill-3 : tie.Need-slice-aggregate-fill-3
+slice-aggregate-fill-3 c = sym (length-take-le _ _ (array-share-prefix-heads (c .before)))
+
+array-share-prefix-tails : tie.Need-array-share-prefix-tails
+array-share-prefix-tails c = let ends = c .before .before .before .before .before .before in ends-fit (lists (header (unbarred ends))) _ _ (ends .ends-of2 .ensures .1)
+
+slice-aggregate-fill-4 : tie.Need-slice-aggregate-fill-4
+slice-aggregate-fill-4 c = sym (length-take-le _ _ (array-share-prefix-tails (c .before)))
+
+-- what the ends tell
+abbrev opening : tie.After-nodes-word → tie.After-opened
+opening c = header (unbarred (c .before .before .before))
+
+read : (c : tie.After-nodes-word)
+    → let must = c .before .before .before in
+    let free = unbarred must in
+    Read (opening c .before .before .before .before .before .before .args .file .now) (sizesIn (opening c .opened .given .0 .0)) (free .ends-of .result .firsts) (free .ends-of .result .seconds)
+    (must .ends-of2 .result .firsts) (must .ends-of2 .result .seconds) (c .nodes-word .result)
+read c =
+    let must = c .before .before .before in
+    let free = unbarred must in
+    record {
+      firstEnds = free .ends-of .ensures .0;
+      secondEnds = free .ends-of .ensures .1;
+      mustHeads = must .ends-of2 .ensures .0;
+      mustTails = must .ends-of2 .ensures .1;
+      word = c .nodes-word .ensures;
+    }
+
+-- the capacity is told before the ends
+abbrev told : tie.After-nodes-word → tie.After-smaller
+told c = unbarred (c .before .before .before) .before .before
 
 fill-requires : tie.Need-fill-requires
 fill-requires c κs =
-    let l = learnt (c .before .before .before .before .before .before .before .before .before .before .before .before .before) in
-    (laid l (c .before .before .before .before .before .before .before .before .before .before .before .before .if1 .left) _ _ _ (c .before .before .before .before .before .before .first-ends .ensures) (c .before .before .before .before .before .second-ends .ensures) (c .before .before .before .before .nodes-word .ensures), lent l _ _ _ (c .before .before .before .before .before .before .before .before .smaller .ensures))
+    let nodes = c .before .before .before .before .before .before in
+    let l = lists (opening nodes) in
+    (laid l (read nodes), lent l _ _ _ (told nodes .smaller .ensures))
 
 same-length : tie.Need-same-length
 same-length c = search needs
@@ -103,38 +138,42 @@ same-length c = search needs
 same-length-2 : tie.Need-same-length-2
 same-length-2 c = search needs
 
-returns-5 : tie.Need-returns-5
-returns-5 c = front-filled _ _ _ (learnt (c .before .before .before .before .before .before .before .before .before .before .before .before .before .before .before .before .before .before)) (c .before .before .before .before .before .before .before .before .before .before .before .before .before .before .before .before .before .if1 .left) (c .before .before .before .before .before .before .before .before .before .before .before .before .before .before .before .if2 .left) (c .before .before .before .before .before .before .before .before .before .before .before .before .before .before .if3 .left) _ (c .before .before .before .before .before .before .before .before .before .before .before .before .before .smaller .ensures) _ _ _ (c .before .before .before .before .fill .ensures)
+returns-4 : tie.Need-returns-4
+returns-4 c =
+    let nodes = c .before .before .before .before .before .before .before .before .before .before .before in
+    let at = told nodes in
+    front-filled _ _ _ (lists (opening nodes)) (at .before .before .if1 .left) (at .before .if2 .left) _ (at .smaller .ensures) _ _ _ (c .before .before .before .before .fill .ensures)
 
 pub front-spec : {M : Type 1} → statement M
 front-spec =
     tie.close
     (tie.spec
-    reach-requires
-    enum-known-reached
+    listed-requires
+    enum-known-opened
     enum-told
     refused-requires
     returns
-    header-of-requires
-    cast-if1
-    returns-2
     cast-k
-    returns-3
+    returns-2
     cast-width
     sub-width
-    returns-4
+    returns-3
     div-smaller
     div-smaller-2
     smaller-requires
     cast-m
-    first-ends-requires
-    second-ends-requires
+    ends-of-requires
+    ends-of-requires-2
     nodes-word-requires
     array-share-prefix-firsts
     slice-aggregate-fill
     array-share-prefix-seconds
     slice-aggregate-fill-2
+    array-share-prefix-heads
+    slice-aggregate-fill-3
+    array-share-prefix-tails
+    slice-aggregate-fill-4
     fill-requires
     same-length
     same-length-2
-    returns-5)
+    returns-4)

@@ -1,4 +1,4 @@
-use Prim.Native.Nat.{_*_, _+_, _≤_}
+use Prim.Native.Nat.{_*_, _≤_}
 use native.Mathlib.Omega.{arith}
 use borrow.Author.Needs.{needs}
 use Rattle.network.proofs.Laws.{body-by, row-reach}
@@ -23,26 +23,20 @@ cast-result c = search needs
 add-result : tie.Need-add-result
 add-result c = search needs
 
+row-bytes-requires : tie.Need-row-bytes-requires
+row-bytes-requires c κs = search needs
+
+reach : (c : tie.After-row-bytes) → c .before .before .before .before .header-of .result .m * c .row-bytes .result ≤ 65536 * 1025
+reach c = row-reach (c .before .before .before .before .header-of .result .m) (c .row-bytes .result) (omega arith) (c .row-bytes .ensures .1)
+
 mul-result : tie.Need-mul-result
-mul-result c = search needs
+mul-result c = omega (arith, reach c)
 
 add-result-2 : tie.Need-add-result-2
-add-result-2 c = search needs
-
-reach : (c : tie.After-u32-at)
-    → c .before .before .before .header-of .result .m * (4 + 4 * c .before .before .before .header-of .result .k) ≤ 65536 * 1024
-reach c =
-    row-reach (c .before .before .before .header-of .result .m) (c .before .before .before .header-of .result .m)
-    (c .before .before .before .header-of .result .k) (omega arith) (omega arith) (omega arith)
-
-mul-result-2 : tie.Need-mul-result-2
-mul-result-2 c = omega (arith, reach c)
-
-add-result-3 : tie.Need-add-result-3
-add-result-3 c = omega (arith, reach c)
+add-result-2 c = omega (arith, reach c)
 
 returns : tie.Need-returns
-returns c = rw (body-by _ _ (c .before .before .before .header-of .ensures), c .u32-at .ensures)
+returns c = rw (body-by _ _ (c .before .before .before .before .header-of .ensures), c .before .u32-at .ensures, c .row-bytes .ensures .0)
 
 pub body-met-spec : {M : Type 1} → statement M
 body-met-spec =
@@ -54,8 +48,7 @@ body-met-spec =
     u32-at-requires
     cast-result
     add-result
+    row-bytes-requires
     mul-result
     add-result-2
-    mul-result-2
-    add-result-3
     returns)

@@ -1,7 +1,8 @@
-use Prim.Native.Nat.{_*_, _+_, _≤_}
+use Prim.Native.Nat.{_≤_}
 use native.Mathlib.Omega.{arith}
 use borrow.Author.Needs.{needs}
-use Rattle.network.proofs.Laws.{cost-nowhere, cost-past, cost-read, row-reach}
+use Rattle.network_file.proofs.Accepted.{state-width}
+use Rattle.network.proofs.Laws.{cost-nowhere, cost-past, cost-read}
 use Rattle.network.proofs.cost_at.Statement.{statement}
 use Rattle.network.proofs.cost_at.Tie as tie
 
@@ -14,53 +15,41 @@ cast-m c = search needs
 cast-k : tie.Need-cast-k
 cast-k c = search needs
 
+row-start-requires : tie.Need-row-start-requires
+row-start-requires c κs = search needs
+
 add-at : tie.Need-add-at
 add-at c = search needs
 
-mul-at : tie.Need-mul-at
-mul-at c = search needs
+state-width-requires : tie.Need-state-width-requires
+state-width-requires c κs = search needs
+
+narrow : (c : tie.After-state-width) → c .state-width .result ≤ 1
+narrow c = rw (c .state-width .ensures) (state-width _)
 
 add-at-2 : tie.Need-add-at-2
-add-at-2 c = search needs
-
-reach : (c : tie.Then2)
-    → c .before .before .before .before .before .before .args .row * (4 + 4 * c .before .before .before .before .header-of .result .k) ≤ 65536 * 1024
-reach c =
-    row-reach (c .before .before .before .before .before .before .args .row) (c .before .before .before .before .header-of .result .m)
-    (c .before .before .before .before .header-of .result .k) (omega arith) (omega arith) (omega arith)
-
-mul-at-2 : tie.Need-mul-at-2
-mul-at-2 c = omega (arith, reach c)
-
-add-at-3 : tie.Need-add-at-3
-add-at-3 c = omega (arith, reach c)
-
-add-u32-at : tie.Need-add-u32-at
-add-u32-at c = omega (arith, reach c)
+add-at-2 c = omega (arith, narrow c)
 
 mul-u32-at : tie.Need-mul-u32-at
 mul-u32-at c = search needs
 
-add-u32-at-2 : tie.Need-add-u32-at-2
-add-u32-at-2 c = omega (arith, reach c)
+add-u32-at : tie.Need-add-u32-at
+add-u32-at c = omega (arith, narrow c)
 
 u32-at-requires : tie.Need-u32-at-requires
-u32-at-requires c κs = omega (arith, reach c)
+u32-at-requires c κs = omega (arith, narrow c)
 
 returns : tie.Need-returns
 returns c =
-    cost-read _ _ _ (c .before .before .before .before .before .header-of .ensures)
-    (c .before .before .before .before .before .before .before .args .criterion) _ (c .before .before .if1 .taken) (c .before .if2 .taken)
-    (c .u32-at .ensures)
+    cost-read _ _ _ (c .before .before .before .before .before .before .before .header-of .ensures) (c .before .before .before .before .before .before .before .before .before .args .criterion) _ _ (c .before .before .before .before .if1 .taken) (c .before .before .before .if2 .taken)
+    (rw (c .before .state-width .ensures, c .before .before .row-start .ensures .0)) (c .u32-at .ensures)
 
 returns-2 : tie.Need-returns-2
 returns-2 c =
-    cost-past _ _ _ (c .before .before .before .before .header-of .ensures) (c .before .before .before .before .before .before .args .criterion)
-    (c .before .if1 .taken) (c .if2 .left)
+    cost-past _ _ _ (c .before .before .before .before .header-of .ensures) (c .before .before .before .before .before .before .args .criterion) (c .before .if1 .taken) (c .if2 .left)
 
 returns-3 : tie.Need-returns-3
-returns-3 c =
-    cost-nowhere _ _ _ (c .before .before .before .header-of .ensures) (c .before .before .before .before .before .args .criterion) (c .if1 .left)
+returns-3 c = cost-nowhere _ _ _ (c .before .before .before .header-of .ensures) (c .before .before .before .before .before .args .criterion) (c .if1 .left)
 
 pub cost-at-spec : {M : Type 1} → statement M
 cost-at-spec =
@@ -69,14 +58,12 @@ cost-at-spec =
     header-of-requires
     cast-m
     cast-k
+    row-start-requires
     add-at
-    mul-at
+    state-width-requires
     add-at-2
-    mul-at-2
-    add-at-3
-    add-u32-at
     mul-u32-at
-    add-u32-at-2
+    add-u32-at
     u32-at-requires
     returns
     returns-2

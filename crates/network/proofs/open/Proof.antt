@@ -1,4 +1,4 @@
--- Open is one check after the other: once the first k are met, it comes to what the checks behind them come to (`passed1` to `passed6`).
+-- Open is one check after the other: once the first k are met, it comes to what the checks behind them come to (`passed1` to `passed7`).
 use mathlib.Core.Path.{_∙_, _≡_, refl, sym}
 use mathlib.Core.List.{List}
 use Prim.Native.Nat.{ℕ}
@@ -137,9 +137,30 @@ returns-6 c = open-stop _ 5 refl (c .enum-told12 .given .1) (search needs) ∙ s
 check-costs-requires : tie.Need-check-costs-requires
 check-costs-requires c κs = search needs
 
+enum-told-13 : tie.Need-enum-told-13
+enum-told-13 c = search needs
+
+enum-told-14 : tie.Need-enum-told-14
+enum-told-14 c = search needs
+
+-- check 7 is met
+abbrev file7 : tie.After-enum-told13 → List ℕ
+file7 c = file6 (c .before .before .before)
+
+passed7 : (c : tie.After-enum-told13) → openOf (file7 c) ≡ openFrom 7 (file7 c)
+unfolding fileChecks
+passed7 c = passed6 (c .before .before .before) ∙ open-next _ 6 refl (c .enum-told13 .given .1) (search needs)
+
 returns-7 : tie.Need-returns-7
+unfolding fileChecks
+returns-7 c = open-stop _ 6 refl (c .enum-told14 .given .1) (search needs) ∙ sym (passed6 (c .before .before .before))
+
+check-states-requires : tie.Need-check-states-requires
+check-states-requires c κs = search needs
+
+returns-8 : tie.Need-returns-8
 unfolding fileChecks openFrom
-returns-7 c = c .check-costs .ensures ∙ sym (passed6 (c .before))
+returns-8 c = c .check-states .ensures ∙ sym (passed7 (c .before))
 
 pub open-spec : {M : Type 1} → statement M
 open-spec =
@@ -170,4 +191,8 @@ open-spec =
     enum-told-12
     returns-6
     check-costs-requires
-    returns-7)
+    enum-told-13
+    enum-told-14
+    returns-7
+    check-states-requires
+    returns-8)

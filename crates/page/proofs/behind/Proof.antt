@@ -10,7 +10,7 @@ following-requires c κs = search needs
 
 returns : tie.Need-returns
 returns c =
-    let s = c .before .before .before .before .before .before in
+    let s = c .before .before .before .before .before .before .before .before .before in
     rw (c .following .ensures) (start-following (s .pre .0) (s .args .start .now) (omega arith) (s .pre .1))
 
 start-requires : tie.Need-start-requires
@@ -19,14 +19,14 @@ start-requires c κs = search needs
 fresh-after-requires : tie.Need-fresh-after-requires
 fresh-after-requires c κs = search needs
 
-grown-requires : tie.Need-grown-requires
-grown-requires c κs = search needs
+grown-with-requires : tie.Need-grown-with-requires
+grown-with-requires c κs = search needs
 
 returns-2 : tie.Need-returns-2
 returns-2 c =
-    let s = c .before .before .before .before .before .before .before .before in
-    start-first (s .pre .0) (s .args .start .now) (c .before .before .start .result) (c .grown .result) (c .before .fresh-after .result)
-    (c .before .before .before .if1 .left) (c .before .before .start .ensures) (c .before .fresh-after .ensures) (c .grown .ensures .1)
+    let s = c .before .before .before .before .before .before .before .before .before .before .before in
+    start-first (s .pre .0) (s .args .start .now) (c .before .before .start .result) (c .grown-with .result) (c .before .fresh-after .result)
+    (c .before .before .before .if1 .left) (c .before .before .start .ensures) (c .before .fresh-after .ensures) (c .grown-with .ensures .1)
 
 pub behind-spec : {M : Type 1} → statement M
 behind-spec =
@@ -36,5 +36,5 @@ behind-spec =
     returns
     start-requires
     fresh-after-requires
-    grown-requires
+    grown-with-requires
     returns-2)

@@ -5,20 +5,21 @@ use lib.Seq.{length-take-le}
 use borrow.Author.Needs.{needs}
 use borrow.Author.Tests.{eq-eqb, ne-eqb}
 use Rattle.checks.specs.Checks.{Outcome, firstUnmet}
-use Rattle.network.specs.Answers.{sizesIn}
-use Rattle.operations.specs.Operations.{Paged, graphIn, startChecks}
-use Rattle.reach.specs.Answers.{reachedOf}
+use Rattle.listed.proofs.Answers.{Lists, answered-by, refused-by}
+use Rattle.network.specs.Answers.{openedOf, sizesIn}
+use Rattle.network_file.specs.File.{networkOf}
+use Rattle.operations.specs.Operations.{Paged, startChecks}
 use Rattle.page.specs.Answers.{refusedBy}
-use Rattle.page.proofs.Given.{Learnt, Read, ends-fit, file-met, nodes-some, page-given, reach-refused, start-given, tree-none, tree-some, walk-given, width-read}
-use Rattle.page.proofs.Checks.{page-file, page-none, page-short, page-start}
+use Rattle.page.proofs.Checks.{page-listed, page-short, page-start}
+use Rattle.page.proofs.Given.{Read, ends-fit, nodes-some, page-given, start-given, walk-given, width-read}
 use Rattle.page.proofs.page.Statement.{statement}
 use Rattle.page.proofs.page.Tie as tie
 
-reach-requires : tie.Need-reach-requires
-reach-requires c κs = search needs
+listed-requires : tie.Need-listed-requires
+listed-requires c κs = search needs
 
-enum-known-reached : tie.Need-enum-known-reached
-enum-known-reached c = search needs
+enum-known-opened : tie.Need-enum-known-opened
+enum-known-opened c = search needs
 
 enum-told : tie.Need-enum-told
 enum-told c = search needs
@@ -30,123 +31,150 @@ returns : tie.Need-returns
 returns c =
     let s = c .before .before .before .before .before .before .before in
     let told = c .before .enum-told .given .1 in
-    ap (λ (o : Outcome Paged). record { outcome = o; buffers = s .args .page .now }) (c .refused .ensures ∙ ap (λ o. refusedBy (reachedOf o)) told)
-    ∙ page-file (s .args .file .now) (s .args .page .now) (s .args .start .now) _ (reach-refused _ _ (sym (c .before .before .before .reach .ensures) ∙ ap reachedOf told))
+    ap (λ (o : Outcome Paged). record { outcome = o; buffers = s .args .page .now }) (c .refused .ensures ∙ ap (λ o. refusedBy (openedOf o)) told)
+    ∙ page-listed (s .args .file .now) (s .args .page .now) (s .args .start .now) _ (refused-by _ _ (sym (c .before .before .before .listed .ensures) ∙ ap openedOf told))
 
--- what Reach and the header tell
-learnt : (c : tie.After-header-of) → Learnt (c .before .before .before .before .before .before .before .before .args .file .now) (record { word = c .before .before .reached .given .0 .0; size = c .before .before .reached .given .0 .1 .0 }) (sizesIn (c .header-of .result))
-learnt c = record { reached = sym (c .before .before .before .before .reach .ensures) ∙ ap reachedOf (c .before .before .reached .given .1); sizes = c .header-of .ensures }
-
-header-of-requires : tie.Need-header-of-requires
-header-of-requires c κs = search needs
-
-cast-if1 : tie.Need-cast-if1
-cast-if1 c = search needs
-
-returns-2 : tie.Need-returns-2
-returns-2 c =
-    let s = c .before .before .before .before .before .before .before .before .before in
-    let l = learnt (c .before) in
-    page-none (s .args .file .now) (s .args .page .now) (s .args .start .now) (file-met l) (tree-none l (c .if1 .taken))
+-- what Open and 12 tell
+lists : (c : tie.After-opened) → Lists (c .before .before .before .before .before .before .args .file .now) (sizesIn (c .opened .given .0 .0))
+lists c = answered-by _ _ (sym (c .before .before .listed .ensures) ∙ ap openedOf (c .opened .given .1))
 
 cast-width : tie.Need-cast-width
 cast-width c = search needs
 
 sub-width : tie.Need-sub-width
-sub-width c = nodes-some (learnt (c .before))
+sub-width c = nodes-some (lists (c .before))
 
-returns-3 : tie.Need-returns-3
-returns-3 c =
-    let s = c .before .before .before .before .before .before .before .before .before .before in
-    let l = learnt (c .before .before) in
-    page-short (s .args .file .now) (s .args .page .now) (s .args .start .now) (file-met l) (tree-some l (c .before .if1 .left)) (rw (← width-read l) (c .if2 .taken))
+returns-2 : tie.Need-returns-2
+returns-2 c =
+    let s = c .before .before .before .before .before .before .before .before in
+    let l = lists (c .before .before) in
+    page-short (s .args .file .now) (s .args .page .now) (s .args .start .now) (l .all) (rw (← width-read l) (c .if1 .taken))
 
 start-number-requires : tie.Need-start-number-requires
 start-number-requires c κs = search needs
 
-returns-4 : tie.Need-returns-4
-returns-4 c =
-    let s = c .before .before .before .before .before .before .before .before .before .before .before .before in
-    let l = learnt (c .before .before .before .before) in
-    page-start (s .args .file .now) (s .args .page .now) (s .args .start .now) (file-met l) (tree-some l (c .before .before .before .if1 .left))
-    (rw (← width-read l) (c .before .before .if2 .left)) _ (c .before .start-number .ensures (file-met l) ∙ (rw (ne-eqb _ 0 (c .if3 .taken))))
+returns-3 : tie.Need-returns-3
+returns-3 c =
+    let s = c .before .before .before .before .before .before .before .before .before .before in
+    let l = lists (c .before .before .before .before) in
+    page-start (s .args .file .now) (s .args .page .now) (s .args .start .now) (l .all) (rw (← width-read l) (c .before .before .if1 .left)) _
+    (c .before .start-number .ensures (l .met) ∙ (rw (ne-eqb _ 0 (c .if2 .taken))))
 
 cast-m : tie.Need-cast-m
 cast-m c = search needs
 
-first-ends-requires : tie.Need-first-ends-requires
-first-ends-requires c κs = search needs
+ends-of-requires : tie.Need-ends-of-requires
+ends-of-requires c κs = search needs
 
-second-ends-requires : tie.Need-second-ends-requires
-second-ends-requires c κs = search needs
+ends-of-requires-2 : tie.Need-ends-of-requires-2
+ends-of-requires-2 c κs = search needs
 
 nodes-word-requires : tie.Need-nodes-word-requires
 nodes-word-requires c κs = search needs
 
+-- the ends of the rows that are not barred, and of the must rows
+abbrev header : tie.After-ends-of → tie.After-opened
+header c = c .before .before .before .before .before .before
+
+abbrev unbarred : tie.After-ends-of2 → tie.After-ends-of
+unbarred c = c .before .before .before
+
 array-share-prefix-firsts : tie.Need-array-share-prefix-firsts
-array-share-prefix-firsts c = ends-fit (learnt (c .before .before .before .before .before .before .before .before)) _ _ (c .before .before .first-ends .ensures)
+array-share-prefix-firsts c = let ends = unbarred (c .before .before .before) in ends-fit (lists (header ends)) _ _ (ends .ends-of .ensures .0)
 
 slice-aggregate-list : tie.Need-slice-aggregate-list
-slice-aggregate-list c = sym (length-take-le _ _ (ends-fit (learnt (c .before .before .before .before .before .before .before .before .before)) _ _ (c .before .before .before .first-ends .ensures)))
+slice-aggregate-list c = sym (length-take-le _ _ (array-share-prefix-firsts (c .before)))
 
 array-share-prefix-seconds : tie.Need-array-share-prefix-seconds
-array-share-prefix-seconds c = ends-fit (learnt (c .before .before .before .before .before .before .before .before .before)) _ _ (c .before .before .second-ends .ensures)
+array-share-prefix-seconds c = let ends = unbarred (c .before .before .before .before) in ends-fit (lists (header ends)) _ _ (ends .ends-of .ensures .1)
 
 slice-aggregate-list-2 : tie.Need-slice-aggregate-list-2
-slice-aggregate-list-2 c = sym (length-take-le _ _ (ends-fit (learnt (c .before .before .before .before .before .before .before .before .before .before)) _ _ (c .before .before .before .second-ends .ensures)))
+slice-aggregate-list-2 c = sym (length-take-le _ _ (array-share-prefix-seconds (c .before)))
+
+array-share-prefix-heads : tie.Need-array-share-prefix-heads
+array-share-prefix-heads c = let ends = c .before .before .before .before .before in ends-fit (lists (header (unbarred ends))) _ _ (ends .ends-of2 .ensures .0)
+
+slice-aggregate-list-3 : tie.Need-slice-aggregate-list-3
+slice-aggregate-list-3 c = sym (length-take-le _ _ (array-share-prefix-heads (c .before)))
+
+array-share-prefix-tails : tie.Need-array-share-prefix-tails
+array-share-prefix-tails c = let ends = c .before .before .before .before .before .before in ends-fit (lists (header (unbarred ends))) _ _ (ends .ends-of2 .ensures .1)
+
+slice-aggregate-list-4 : tie.Need-slice-aggregate-list-4
+slice-aggregate-list-4 c = sym (length-take-le _ _ (array-share-prefix-tails (c .before)))
 
 -- what the ends tell, and that the start is met
-read : (c : tie.After-nodes-word)
-    → Read (c .before .before .before .before .before .before .before .before .before .before .before .before .before .before .before .before .args .file .now) (sizesIn (c .before .before .before .before .before .before .before .before .header-of .result)) (c .before .before .first-ends .result) (c .before .second-ends .result) (c .nodes-word .result)
-read c = record { firstEnds = c .before .before .first-ends .ensures; secondEnds = c .before .second-ends .ensures; word = c .nodes-word .ensures }
+abbrev called : tie.After-opened → tie.Start
+called c = c .before .before .before .before .before .before
 
-started : (c : tie.Else3) → firstUnmet (startChecks (graphIn (c .before .before .before .before .before .before .before .before .before .before .before .before .args .file .now)) (c .before .before .before .before .before .before .before .before .before .before .before .before .args .start .now)) ≡ none
-started c = c .before .start-number .ensures (file-met (learnt (c .before .before .before .before))) ∙ (rw (eq-eqb _ 0 (c .if3 .left)))
+abbrev opening : tie.After-nodes-word → tie.After-opened
+opening c = header (unbarred (c .before .before .before))
+
+read : (c : tie.After-nodes-word)
+    → let must = c .before .before .before in
+    let free = unbarred must in
+    Read (called (opening c) .args .file .now) (sizesIn (opening c .opened .given .0 .0)) (free .ends-of .result .firsts) (free .ends-of .result .seconds)
+    (must .ends-of2 .result .firsts) (must .ends-of2 .result .seconds) (c .nodes-word .result)
+read c =
+    let must = c .before .before .before in
+    let free = unbarred must in
+    record {
+      firstEnds = free .ends-of .ensures .0;
+      secondEnds = free .ends-of .ensures .1;
+      mustHeads = must .ends-of2 .ensures .0;
+      mustTails = must .ends-of2 .ensures .1;
+      word = c .nodes-word .ensures;
+    }
+
+started : (c : tie.Else2) → firstUnmet (startChecks (networkOf (called (c .before .before .before .before) .args .file .now)) (called (c .before .before .before .before) .args .start .now)) ≡ none
+started c = c .before .start-number .ensures (lists (c .before .before .before .before) .met) ∙ (rw (eq-eqb _ 0 (c .if2 .left)))
+
+abbrev beginning : tie.After-nodes-word → tie.Else2
+beginning c = unbarred (c .before .before .before) .before .before
 
 list-requires : tie.Need-list-requires
 list-requires c κs =
-    let at = c .before .before .before .before .before .before .before in
-    let l = learnt (at .before .before .before .before) in
-    let r = read (c .before .before .before) in
-    let tree = at .before .before .before .if1 .left in
-    (walk-given l r tree _ (started at), start-given l r tree _ (started at))
+    let nodes = c .before .before .before .before .before in
+    let l = lists (opening nodes) in
+    let r = read nodes in
+    (walk-given l r, start-given l r _ (started (beginning nodes)))
 
 same-length : tie.Need-same-length
 same-length c = search needs
 
-returns-5 : tie.Need-returns-5
-returns-5 c =
-    let s = c .before .before .before .before .before .before .before .before .before .before .before .before .before .before .before .before .before .before .before .before .before .before in
-    let at = c .before .before .before .before .before .before .before .before .before .before in
-    let l = learnt (at .before .before .before .before) in
-    let r = read (c .before .before .before .before .before .before) in
-    page-given l r (at .before .before .before .if1 .left) _ (started at) (s .args .page .now) _ (at .before .before .if2 .left) (c .before .before .list .ensures)
+returns-4 : tie.Need-returns-4
+returns-4 c =
+    let nodes = c .before .before .before .before .before .before .before .before in
+    let begins = beginning nodes in
+    let l = lists (opening nodes) in
+    page-given l (read nodes) _ (started begins) (called (opening nodes) .args .page .now) _ (begins .before .before .if1 .left) (c .before .before .list .ensures)
 
 pub page-spec : {M : Type 1} → statement M
 page-spec =
     tie.close
     (tie.spec
-    reach-requires
-    enum-known-reached
+    listed-requires
+    enum-known-opened
     enum-told
     refused-requires
     returns
-    header-of-requires
-    cast-if1
-    returns-2
     cast-width
     sub-width
-    returns-3
+    returns-2
     start-number-requires
-    returns-4
+    returns-3
     cast-m
-    first-ends-requires
-    second-ends-requires
+    ends-of-requires
+    ends-of-requires-2
     nodes-word-requires
     array-share-prefix-firsts
     slice-aggregate-list
     array-share-prefix-seconds
     slice-aggregate-list-2
+    array-share-prefix-heads
+    slice-aggregate-list-3
+    array-share-prefix-tails
+    slice-aggregate-list-4
     list-requires
     same-length
-    returns-5)
+    returns-4)

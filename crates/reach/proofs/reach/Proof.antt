@@ -30,11 +30,8 @@ returns c =
 cast-m : tie.Need-cast-m
 cast-m c = search needs
 
-first-ends-requires : tie.Need-first-ends-requires
-first-ends-requires c κs = search needs
-
-second-ends-requires : tie.Need-second-ends-requires
-second-ends-requires c κs = search needs
+ends-of-requires : tie.Need-ends-of-requires
+ends-of-requires c κs = search needs
 
 nodes-word-requires : tie.Need-nodes-word-requires
 nodes-word-requires c κs = search needs
@@ -44,18 +41,20 @@ sizes : (c : tie.After-opened) → openOf (c .before .before .before .before .ar
 sizes c = sym (c .before .before .«open» .ensures) ∙ ap openedOf (c .opened .given .1)
 
 array-share-prefix-firsts : tie.Need-array-share-prefix-firsts
-array-share-prefix-firsts c = rows-fit _ _ (sizes (c .before .before .before .before .before)) _ _ (c .before .before .first-ends .ensures)
+array-share-prefix-firsts c =
+    let ends = c .before .before .before in
+    rows-fit _ _ (sizes (ends .before .before .before)) _ _ (ends .ends-of .ensures .0)
 
 slice-aggregate-reached-word : tie.Need-slice-aggregate-reached-word
-slice-aggregate-reached-word c =
-    sym (length-take-le _ _ (rows-fit _ _ (sizes (c .before .before .before .before .before .before)) _ _ (c .before .before .before .first-ends .ensures)))
+slice-aggregate-reached-word c = sym (length-take-le _ _ (array-share-prefix-firsts (c .before)))
 
 array-share-prefix-seconds : tie.Need-array-share-prefix-seconds
-array-share-prefix-seconds c = rows-fit _ _ (sizes (c .before .before .before .before .before .before)) _ _ (c .before .before .second-ends .ensures)
+array-share-prefix-seconds c =
+    let ends = c .before .before .before .before in
+    rows-fit _ _ (sizes (ends .before .before .before)) _ _ (ends .ends-of .ensures .1)
 
 slice-aggregate-reached-word-2 : tie.Need-slice-aggregate-reached-word-2
-slice-aggregate-reached-word-2 c =
-    sym (length-take-le _ _ (rows-fit _ _ (sizes (c .before .before .before .before .before .before .before)) _ _ (c .before .before .before .second-ends .ensures)))
+slice-aggregate-reached-word-2 c = sym (length-take-le _ _ (array-share-prefix-seconds (c .before)))
 
 reached-word-requires : tie.Need-reached-word-requires
 reached-word-requires c κs = search needs
@@ -65,9 +64,10 @@ cast-word c = search needs
 
 returns-2 : tie.Need-returns-2
 returns-2 c =
-    reach-answered _ _ (sizes (c .before .before .before .before .before .before .before .before)) _ _ _ _
-    (c .before .before .before .before .before .first-ends .ensures) (c .before .before .before .before .second-ends .ensures)
-    (c .before .before .before .nodes-word .ensures) (c .reached-word .ensures)
+    let nodes = c .before .before .before in
+    let ends = nodes .before .before .before in
+    reach-answered _ _ (sizes (ends .before .before .before)) _ _ _ _ (ends .ends-of .ensures .0) (ends .ends-of .ensures .1)
+    (nodes .nodes-word .ensures) (c .reached-word .ensures)
 
 pub reach-spec : {M : Type 1} → statement M
 reach-spec =
@@ -79,8 +79,7 @@ reach-spec =
     refused-requires
     returns
     cast-m
-    first-ends-requires
-    second-ends-requires
+    ends-of-requires
     nodes-word-requires
     array-share-prefix-firsts
     slice-aggregate-reached-word

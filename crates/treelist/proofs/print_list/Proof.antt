@@ -4,9 +4,8 @@ use Prim.Native.Nat.{_-_, _<_, _≤_}
 use native.Mathlib.Omega.{arith}
 use lib.ListN.{length, length-take, take}
 use borrow.Author.Needs.{needs}
-use Rattle.graph.specs.Paths.{trees}
 use Rattle.pages.specs.Pages.{restAfter}
-use Rattle.operations.specs.Operations.{graphIn}
+use Rattle.operations.specs.Operations.{layoutsIn}
 use Rattle.treelist.proofs.Laws.{Called, copied-on, given-nodes, last-page, not-refused, page-left}
 use Rattle.treelist.proofs.Run.{More, Run, run-start}
 use Rattle.treelist.proofs.print_list.Statement.{statement}
@@ -18,7 +17,7 @@ Inv-loop file firsts seconds page₀ n k width start₀ len₀ total₀ page sta
 
 abbrev μ-loop : tie.MeasureT-loop
 μ-loop file firsts seconds page₀ n k width start₀ len₀ total₀ page start len total =
-    length (restAfter (trees (graphIn file)) (take len start))
+    length (restAfter (layoutsIn file) (take len start))
 
 -- the entry of the function, and the head of the loop, from a call of Page
 abbrev entry : tie.After-page Inv-loop μ-loop → tie.Start Inv-loop μ-loop
@@ -48,7 +47,7 @@ moved : (c : tie.After-by-value Inv-loop μ-loop) →
     let f = entry p .args .file .now in
     let next = take (entry p .args .h .n - 1) (c .by-value .result) in
     Run f next (c .before .before .before .before .held .result)
-    × (length (restAfter (trees (graphIn f)) next) < length (restAfter (trees (graphIn f)) (take (head p .loop .len) (head p .loop .start))))
+    × (length (restAfter (layoutsIn f) next) < length (restAfter (layoutsIn f) (take (head p .loop .len) (head p .loop .start))))
 moved c =
     copied-on (c .by-value .result) _ (given-nodes (entry (c .before .before .before .before .before .before .before .before .before .before .before .before) .pre .0)) (left (c .before .before)) (c .before .pick .ensures) (c .by-value .ensures .1) (c .before .before .before .before .held .ensures)
 

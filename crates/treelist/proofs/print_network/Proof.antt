@@ -14,11 +14,8 @@ cast-m c = search needs
 print-sizes-requires : tie.Need-print-sizes-requires
 print-sizes-requires c κs = search needs
 
-first-ends-requires : tie.Need-first-ends-requires
-first-ends-requires c κs = search needs
-
-second-ends-requires : tie.Need-second-ends-requires
-second-ends-requires c κs = search needs
+ends-of-requires : tie.Need-ends-of-requires
+ends-of-requires c κs = search needs
 
 page-space-requires : tie.Need-page-space-requires
 page-space-requires c κs = search needs
@@ -30,28 +27,30 @@ cast-places : tie.Need-cast-places
 cast-places c = search needs
 
 sub-places : tie.Need-sub-places
-sub-places c = omega (arith, given-nodes (c .before .before .before .before .before .before .before .before .pre) .0)
+sub-places c = omega (arith, given-nodes (c .before .before .before .before .before .before .before .before .before .pre) .0)
 
 mul-places : tie.Need-mul-places
 mul-places c = search needs
 
 array-share-prefix-firsts : tie.Need-array-share-prefix-firsts
-array-share-prefix-firsts c = ends-fit (c .before .before .before .before .before .before .before .before .pre) _ _ (c .before .before .before .before .first-ends .ensures)
+array-share-prefix-firsts c = let ends = c .before .before .before .before .before in ends-fit (ends .before .before .before .before .pre) _ _ (ends .ends-of .ensures .0)
 
 slice-aggregate-print-list : tie.Need-slice-aggregate-print-list
-slice-aggregate-print-list c = sym (length-take-le _ _ (ends-fit (c .before .before .before .before .before .before .before .before .before .pre) _ _ (c .before .before .before .before .before .first-ends .ensures)))
+slice-aggregate-print-list c = sym (length-take-le _ _ (array-share-prefix-firsts (c .before)))
 
 array-share-prefix-seconds : tie.Need-array-share-prefix-seconds
-array-share-prefix-seconds c = ends-fit (c .before .before .before .before .before .before .before .before .before .pre) _ _ (c .before .before .before .before .second-ends .ensures)
+array-share-prefix-seconds c = let ends = c .before .before .before .before .before .before in ends-fit (ends .before .before .before .before .pre) _ _ (ends .ends-of .ensures .1)
 
 slice-aggregate-print-list-2 : tie.Need-slice-aggregate-print-list-2
-slice-aggregate-print-list-2 c = sym (length-take-le _ _ (ends-fit (c .before .before .before .before .before .before .before .before .before .before .pre) _ _ (c .before .before .before .before .before .second-ends .ensures)))
+slice-aggregate-print-list-2 c = sym (length-take-le _ _ (array-share-prefix-seconds (c .before)))
 
 slice-aggregate-print-list-3 : tie.Need-slice-aggregate-print-list-3
-slice-aggregate-print-list-3 c = simp length-take (omega (arith, c .before .before .before .before .before .page-space .ensures, given-nodes (c .before .before .before .before .before .before .before .before .before .before .before .pre) .1))
+slice-aggregate-print-list-3 c = simp length-take (omega (arith, c .before .before .before .before .before .page-space .ensures, given-nodes (c .before .before .before .before .before .before .before .before .before .before .before .before .pre) .1))
 
 print-list-requires : tie.Need-print-list-requires
-print-list-requires c κs = (c .before .before .before .before .before .before .before .before .before .before .before .pre, simp length-take (omega (arith, c .before .before .before .before .before .page-space .ensures, given-nodes (c .before .before .before .before .before .before .before .before .before .before .before .pre) .1)))
+print-list-requires c κs =
+    let given = c .before .before .before .before .before .before .before .before .before .before .before .before .pre in
+    (given, simp length-take (omega (arith, c .before .before .before .before .before .page-space .ensures, given-nodes given .1)))
 
 print-rest-requires : tie.Need-print-rest-requires
 print-rest-requires c κs = search needs
@@ -65,8 +64,7 @@ print-network-spec =
     (tie.spec
     cast-m
     print-sizes-requires
-    first-ends-requires
-    second-ends-requires
+    ends-of-requires
     page-space-requires
     slice-aggregate-page
     cast-places

@@ -55,6 +55,9 @@ fronts-requires c κs = c .before .before .before .before .before .before .befor
 no-rows-requires : tie.Need-no-rows-requires
 no-rows-requires c κs = search needs
 
+states-requires : tie.Need-states-requires
+states-requires c κs = search needs
+
 four-nodes-requires : tie.Need-four-nodes-requires
 four-nodes-requires c κs = search needs
 
@@ -85,6 +88,7 @@ main-spec =
     slice-aggregate-fronts
     fronts-requires
     no-rows-requires
+    states-requires
     four-nodes-requires
     five-nodes-requires
     returns)

@@ -16,12 +16,12 @@ use Rattle.walk.proofs.after.Statement.{statement}
 use Rattle.walk.proofs.after.Tie as tie
 
 abbrev Inv-loop : tie.InvT-loop
-Inv-loop neighbours firsts seconds limit nodes width path len i₀ fresh₀ i fresh =
-    afterOf neighbours firsts seconds limit (plantOf path) nodes width (keysOf path) len
-    ≡ afterFrom neighbours firsts seconds limit (plantOf path) width i fresh (keysOf path)
+Inv-loop neighbours firsts seconds claims heads tails limit nodes width path len i₀ fresh₀ i fresh =
+    afterOf neighbours firsts seconds claims heads tails limit (plantOf path) nodes width (keysOf path) len
+    ≡ afterFrom neighbours firsts seconds claims heads tails limit (plantOf path) width i fresh (keysOf path)
 
 abbrev μ-loop : tie.MeasureT-loop
-μ-loop neighbours firsts seconds limit nodes width path len i₀ fresh₀ i fresh = i
+μ-loop neighbours firsts seconds claims heads tails limit nodes width path len i₀ fresh₀ i fresh = i
 
 shortened-requires : tie.Need-shortened-requires Inv-loop μ-loop
 shortened-requires c κs = search needs
@@ -38,7 +38,7 @@ loop-holds c =
     let prefix = c .before .before .shortened .ensures in
     let long = keys-length (c .before .before .shortened .result) (simp length-map at (ok .1 .1 .1 .0 .1 .0 .1)) (simp length-map at (ok .1 .1 .0 .1 .0 .1)) (simp length-map at (ok .1 .1 .1 .1 .0 .1 .0 .1)) in
     rw (c .fresh-after .ensures, prefix .0, prefix .1)
-    (after-start _ _ _ _ _ _ _ _ _ _ (c .before .length .ensures ∙ sym long ∙ ap length (prefix .1) ∙ (simp length-take)))
+    (after-start _ _ _ _ _ _ _ _ _ _ _ _ _ (c .before .length .ensures ∙ sym long ∙ ap length (prefix .1) ∙ (simp length-take)))
 
 sub-i : tie.Need-sub-i Inv-loop μ-loop
 sub-i c = search needs
@@ -65,15 +65,15 @@ skip-requires : tie.Need-skip-requires Inv-loop μ-loop
 skip-requires c κs = search needs
 
 -- the whole answer, at the step that is asked
-asked : (c : tie.After-skip Inv-loop μ-loop) → let a = c .before .before .before .before .before .before .before .before .before .before .before .before .before .before .before .args in
-    afterOf (now (a .neighbours)) (now (a .firsts)) (now (a .seconds)) (a .limit) (plantOf (a .path)) (a .nodes) (a .width) (keysOf (a .path)) (a .len)
-    ≡ orElse (nextOf (c .skip .result)) (afterFrom (now (a .neighbours)) (now (a .firsts)) (now (a .seconds)) (a .limit) (plantOf (a .path)) (a .width)
+asked : (c : tie.After-skip Inv-loop μ-loop) → let a = c .before .before .before .before .before .before .before .before .before .before .before .before .before .before .before .before .before .before .args in
+    afterOf (now (a .neighbours)) (now (a .firsts)) (now (a .seconds)) (now (a .claims)) (now (a .heads)) (now (a .tails)) (a .limit) (plantOf (a .path)) (a .nodes) (a .width) (keysOf (a .path)) (a .len)
+    ≡ orElse (nextOf (c .skip .result)) (afterFrom (now (a .neighbours)) (now (a .firsts)) (now (a .seconds)) (now (a .claims)) (now (a .heads)) (now (a .tails)) (a .limit) (plantOf (a .path)) (a .width)
     (c .before .before .before .before .before .before .before .before .loop .i - 1) (bitOr (c .before .before .before .before .before .before .before .before .loop .fresh) (c .before .before .bit .result)) (keysOf (a .path)))
 asked c =
-    let steps : c .before .before .before .if1 .steps ≡ c .before .before .before .before .before .before .before .before .before .before .before .before .before .before .before .args .width - (c .before .before .before .before .before .before .before .before .loop .i - 1) = ⊎-elim (λ w. omega arith) (λ w. omega arith) (c .before .before .before .if1 .came) in
+    let steps : c .before .before .before .if1 .steps ≡ c .before .before .before .before .before .before .before .before .before .before .before .before .before .before .before .before .before .before .args .width - (c .before .before .before .before .before .before .before .before .loop .i - 1) = ⊎-elim (λ w. omega arith) (λ w. omega arith) (c .before .before .before .if1 .came) in
     let part = c .before .shortened2 .ensures in
     rw (c .skip .ensures .1, part .0, c .before .before .bit .ensures)
-    (c .before .before .before .before .before .before .before .before .loop .inv ∙ after-back _ _ _ _ _ _ _ _ _ _ _ _ _ _ (omega (arith, c .before .before .before .before .before .before .before .loop-test .taken)) (c .before .before .before .before .before .before .pivot-at .ensures)
+    (c .before .before .before .before .before .before .before .before .loop .inv ∙ after-back _ _ _ _ _ _ _ _ _ _ _ _ _ _ _ _ _ (omega (arith, c .before .before .before .before .before .before .before .loop-test .taken)) (c .before .before .before .before .before .before .pivot-at .ensures)
     (c .before .before .before .before .before .node-at .ensures) (c .before .before .before .before .row-at .ensures) steps (part .1))
 
 returns : tie.Need-returns Inv-loop μ-loop
@@ -86,7 +86,7 @@ loop-again : tie.Need-loop-again Inv-loop μ-loop
 loop-again c = asked (c .before) ∙ next-none _ _ (c .if2 .left)
 
 returns-2 : tie.Need-returns-2 Inv-loop μ-loop
-returns-2 c = (refl, sym (c .before .loop .inv ∙ after-over _ _ _ _ _ _ _ _ _ (omega (arith, c .loop-test .left))))
+returns-2 c = (refl, sym (c .before .loop .inv ∙ after-over _ _ _ _ _ _ _ _ _ _ _ _ (omega (arith, c .loop-test .left))))
 
 pub after-spec : {M : Type 1} → statement M
 after-spec =

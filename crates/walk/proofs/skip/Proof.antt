@@ -5,10 +5,16 @@ use mathlib.Core.Option.{some}
 use Prim.Native.Nat.{_-_, _<_}
 use native.Mathlib.Omega.{arith}
 use Rattle.search.specs.Search.{rowFoundOf}
-use Rattle.walk.proofs.Laws.{skip-none, skip-on, skip-row}
+use Rattle.walk.proofs.Laws.{skip-must, skip-none, skip-on, skip-row}
 use borrow.Author.Needs.{needs}
 use Rattle.walk.proofs.skip.Statement.{statement}
 use Rattle.walk.proofs.skip.Tie as tie
+
+must-row-requires : tie.Need-must-row-requires
+must-row-requires c κs = search needs
+
+returns : tie.Need-returns
+returns c = (refl, skip-must _ _ _ _ _ _ _ _ _ _ _ _ (sym (c .before .must-row .ensures) ∙ c .if1 .taken))
 
 entered-at-requires : tie.Need-entered-at-requires
 entered-at-requires c κs = search needs
@@ -34,17 +40,18 @@ cast-extended c = search needs
 extended-requires : tie.Need-extended-requires
 extended-requires c κs = search needs
 
-grown-requires : tie.Need-grown-requires
-grown-requires c κs = search needs
+grown-with-requires : tie.Need-grown-with-requires
+grown-with-requires c κs = search needs
 
-returns : tie.Need-returns
-returns c =
-    let left : c .before .before .if1 .left ≡ c .before .before .before .before .before .before .before .before .before .before .before .before .before .args .steps - 1 = ⊎-elim (λ w. omega arith) (λ w. omega arith) (c .before .before .if1 .came) in
-    let small : c .before .before .before .before .before .before .before .before .before .before .before .before .before .args .place < 256 = omega (arith, c .before .before .before .before .before .before .before .before .before .before .before .before .before .fits .place) in
+returns-2 : tie.Need-returns-2
+returns-2 c =
+    let left : c .before .before .if2 .left ≡ c .before .before .before .before .before .before .before .before .before .before .before .before .before .before .before .before .before .before .args .steps - 1 = ⊎-elim (λ w. omega arith) (λ w. omega arith) (c .before .before .if2 .came) in
+    let small : c .before .before .before .before .before .before .before .before .before .before .before .before .before .before .before .before .before .before .args .place < 256 = omega (arith, c .before .before .before .before .before .before .before .before .before .before .before .before .before .before .before .before .before .before .fits .place) in
+    let free = sym (c .before .before .before .before .before .before .before .before .before .before .before .must-row .ensures) ∙ c .before .before .before .before .before .before .before .before .before .before .if1 .left in
     let next = c .before .extended .ensures in (
-      c .grown .ensures .0 ∙ next .0,
-      ap some (c .grown .ensures .1) ∙ (rw (next .0, next .1, c .before .before .before .minus .ensures, c .before .before .before .before .bit .ensures)
-          (skip-row _ _ _ _ _ _ _ _ _ _ _ left small (rw (← (c .before .before .before .before .before .before .before .before .before .entered-at .ensures)) (sym (c .before .before .before .before .before .before .before .before .next-row .ensures) ∙ ap rowFoundOf (c .before .before .before .before .before .before .beside .given .1))))),
+      c .grown-with .ensures .0 ∙ next .0,
+      ap some (c .grown-with .ensures .1) ∙ (rw (next .0, next .1, c .before .before .before .minus .ensures, c .before .before .before .before .bit .ensures)
+          (skip-row _ _ _ _ _ _ _ _ _ _ _ _ _ _ free left small (rw (← (c .before .before .before .before .before .before .before .before .before .entered-at .ensures)) (sym (c .before .before .before .before .before .before .before .before .next-row .ensures) ∙ ap rowFoundOf (c .before .before .before .before .before .before .beside .given .1))))),
     )
 
 enum-told : tie.Need-enum-told
@@ -53,27 +60,31 @@ enum-told c = search needs
 open-past-requires : tie.Need-open-past-requires
 open-past-requires c κs = search needs
 
-grown-requires-2 : tie.Need-grown-requires-2
-grown-requires-2 c κs = search needs
-
-returns-2 : tie.Need-returns-2
-returns-2 c = (
-  c .grown2 .ensures .0,
-  ap some (c .grown2 .ensures .1) ∙ skip-on _ _ _ _ _ _ _ _ _ (rw (← (c .before .before .before .before .before .before .entered-at .ensures)) (sym (c .before .before .before .before .before .next-row .ensures) ∙ ap rowFoundOf (c .before .before .before .enum-told .given .1)))
-      (sym (c .before .before .open-past .ensures) ∙ c .before .if2 .taken),
-)
+grown-with-requires-2 : tie.Need-grown-with-requires-2
+grown-with-requires-2 c κs = search needs
 
 returns-3 : tie.Need-returns-3
 returns-3 c = (
+  c .grown-with2 .ensures .0,
+  ap some (c .grown-with2 .ensures .1) ∙ skip-on _ _ _ _ _ _ _ _ _ _ _ _ (sym (c .before .before .before .before .before .before .before .before .must-row .ensures) ∙ c .before .before .before .before .before .before .before .if1 .left)
+      (rw (← (c .before .before .before .before .before .before .entered-at .ensures)) (sym (c .before .before .before .before .before .next-row .ensures) ∙ ap rowFoundOf (c .before .before .before .enum-told .given .1)))
+      (sym (c .before .before .open-past .ensures) ∙ c .before .if3 .taken),
+)
+
+returns-4 : tie.Need-returns-4
+returns-4 c = (
   refl,
-  skip-none _ _ _ _ _ _ _ _ _ (rw (← (c .before .before .before .before .before .entered-at .ensures)) (sym (c .before .before .before .before .next-row .ensures) ∙ ap rowFoundOf (c .before .before .enum-told .given .1)))
-      (sym (c .before .open-past .ensures) ∙ c .if2 .left),
+  skip-none _ _ _ _ _ _ _ _ _ _ _ _ (sym (c .before .before .before .before .before .before .before .must-row .ensures) ∙ c .before .before .before .before .before .before .if1 .left)
+      (rw (← (c .before .before .before .before .before .entered-at .ensures)) (sym (c .before .before .before .before .next-row .ensures) ∙ ap rowFoundOf (c .before .before .enum-told .given .1)))
+      (sym (c .before .open-past .ensures) ∙ c .if3 .left),
 )
 
 pub skip-spec : {M : Type 1} → statement M
 skip-spec =
     tie.close
     (tie.spec
+    must-row-requires
+    returns
     entered-at-requires
     next-row-requires
     enum-known-beside
@@ -82,10 +93,10 @@ skip-spec =
     sub-left
     cast-extended
     extended-requires
-    grown-requires
-    returns
+    grown-with-requires
+    returns-2
     enum-told
     open-past-requires
-    grown-requires-2
-    returns-2
-    returns-3)
+    grown-with-requires-2
+    returns-3
+    returns-4)

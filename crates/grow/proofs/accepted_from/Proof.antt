@@ -1,0 +1,58 @@
+use mathlib.Core.Path.{_∙_}
+use borrow.Author.Needs.{needs}
+use borrow.Author.Tests.{eq-eqb, ne-eqb}
+use Rattle.grow.specs.Musts.{acceptedOf, claimedOf}
+use Rattle.grow.proofs.accepted_from.Statement.{statement}
+use Rattle.grow.proofs.accepted_from.Tie as tie
+
+open-at-requires : tie.Need-open-at-requires
+open-at-requires c κs = search needs
+
+step-from-requires : tie.Need-step-from-requires
+step-from-requires c κs = search needs
+
+returns : tie.Need-returns
+unfolding acceptedOf
+returns c = rw (← c .before .before .open-at .ensures, eq-eqb _ _ (c .before .if1 .taken)) (c .step-from .ensures)
+
+must-seeds-requires : tie.Need-must-seeds-requires
+must-seeds-requires c κs = search needs
+
+spread-requires : tie.Need-spread-requires
+spread-requires c κs = search needs
+
+minus-requires : tie.Need-minus-requires
+minus-requires c κs = search needs
+
+step-from-requires-2 : tie.Need-step-from-requires-2
+step-from-requires-2 c κs = search needs
+
+step-from-requires-3 : tie.Need-step-from-requires-3
+step-from-requires-3 c κs = search needs
+
+earlier-requires : tie.Need-earlier-requires
+earlier-requires c κs = search needs
+
+returns-2 : tie.Need-returns-2
+unfolding acceptedOf claimedOf
+returns-2 c =
+    let claimed = c .before .before .before .before in
+    let seeds = claimed .before in
+    let fresh = seeds .before in
+    rw (← fresh .before .open-at .ensures, ne-eqb _ _ (fresh .if1 .left))
+    (c .earlier .ensures ∙ (rw (c .before .before .step-from2 .ensures, c .before .step-from3 .ensures, c .before .before .before .minus .ensures, claimed .spread .ensures, seeds .must-seeds .ensures)))
+
+pub accepted-from-spec : {M : Type 1} → statement M
+accepted-from-spec =
+    tie.close
+    (tie.spec
+    open-at-requires
+    step-from-requires
+    returns
+    must-seeds-requires
+    spread-requires
+    minus-requires
+    step-from-requires-2
+    step-from-requires-3
+    earlier-requires
+    returns-2)
