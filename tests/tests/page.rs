@@ -354,6 +354,40 @@ fn runs_of_pages_over_seeded_networks_with_states() {
     runs_of_pages(make, &[0, 8, 9, 10, 11, 12, 13, 15, 255]);
 }
 
+/// Networks of any size, where no list can be held against: the first page has trees that keep the states, as their minimal
+/// paths, in ascending order, and 12 comes exactly if Reach is short or the must rows have a cycle.
+#[test]
+fn first_pages_of_large_networks_with_states() {
+    let mut pages = 0;
+    let mut full = 0;
+    for seed in 0..4_000 {
+        let rng = &mut Rng::new(seed);
+        let network = draw::network_with_states(rng, 32, 256);
+        let mut page = vec![0; 20 * network.width()];
+        let mut answer = [0; 2];
+        let code = ffi::page(&network.encode(), &mut page, &[], &mut answer);
+        let reached = trees::reached(&network).len() == network.n as usize;
+        if !reached || trees::must_cycle(&network) {
+            assert_eq!(code, 12, "{network:?}");
+            continue;
+        }
+        assert_eq!(code, 0, "{network:?}");
+        let count = answer[0] as usize;
+        let written: Vec<&[u16]> = page.chunks(network.width()).take(count).collect();
+        for tree in &written {
+            assert!(trees::is_minimal(&network, tree), "{network:?}");
+            assert!(trees::keeps_states(&network, tree), "{network:?}");
+        }
+        let keys = |tree: &&[u16]| trees::keys(&network, tree);
+        let keys: Vec<_> = written.iter().map(keys).collect();
+        assert!(keys.windows(2).all(|two| two[0] < two[1]), "{network:?}");
+        pages += 1;
+        full += answer[1] as usize;
+    }
+    println!("{pages} pages, {full} with more behind them");
+    assert!(pages >= ENOUGH && full >= ENOUGH);
+}
+
 /// Damaged files of networks that are made so; each of these checks must refuse many.
 fn damaged_files(make: impl Fn(&mut Rng) -> Network, codes: &[usize]) {
     let mut of_code = [0; 256];

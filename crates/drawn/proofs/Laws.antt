@@ -1,4 +1,4 @@
--- Laws for the code: a test over rows one after the other, the ends of one row more, and what trying rows comes to, check by check.
+-- Laws for the code: the ends of one row more, and what trying rows comes to, check by check.
 use mathlib.Core.Path.{_∙_, _≡_, ap, sym}
 use mathlib.Core.Logic.{⊎-elim}
 use mathlib.Core.Bool.{Bool, false, true}
@@ -8,10 +8,10 @@ use native.Mathlib.Decide.{ℕ-discrete}
 use native.Mathlib.Numerals.{add-one}
 use native.Mathlib.Omega.{arith}
 use lib.Dec.{ltb}
-use lib.ListN.{drop, drop-of-length-le, getD, length, length-set, length-take, set, take}
-use lib.Seq.{drop-cons, ext-getD, getD-set-other, getD-set-same, getD-take, take-suc}
+use lib.ListN.{getD, length, length-set, length-take, set, take}
+use lib.Seq.{ext-getD, getD-set-other, getD-set-same, getD-take, take-suc}
 use borrow.Author.Tests.{eq-eqb, ne-eqb}
-use Rattle.lists.specs.Lists.{all, any, both, either, member, pick, range}
+use Rattle.lists.specs.Lists.{all, any, member, pick, range}
 use Rattle.lists.proofs.Members.{member-in, member-out, snoc-new, snoc-old, snoc-out}
 use Rattle.lists.proofs.Tests.{T-same, pick-true}
 use Rattle.graph.specs.Paths.{Key}
@@ -21,39 +21,6 @@ use Rattle.drawn.specs.Only.{onlyEnds}
 use Rattle.drawn.specs.Tried.{drawnKeys, triedOf}
 use Rattle.drawn.specs.declared.DrawnAnswer.{DrawnAnswer}
 use Rattle.drawn.proofs.Only.{only-at, only-length}
-
--- a test of the rows from i on
-
-module _ (p : ℕ → Bool) (l : List ℕ) (i : ℕ) where
-  all-turn : i < length l → all p (drop i l) ≡ both (p (getD l i 0)) (all p (drop (i + 1) l))
-  unfolding all
-  all-turn h = rw (drop-cons l i 0 h, add-one)
-
-  pub all-next : i < length l → p (getD l i 0) ≡ true → all p (drop i l) ≡ all p (drop (i + 1) l)
-  all-next h e = all-turn h ∙ (rw e)
-
-  pub all-stop : i < length l → p (getD l i 0) ≡ false → all p (drop i l) ≡ false
-  all-stop h e = all-turn h ∙ (rw e)
-
-  pub all-end : length l ≤ i → all p (drop i l) ≡ true
-  unfolding all
-  all-end h = rw (drop-of-length-le l h)
-
--- and whether one of them passes
-module _ (p : ℕ → Bool) (l : List ℕ) (i : ℕ) where
-  any-turn : i < length l → any p (drop i l) ≡ either (p (getD l i 0)) (any p (drop (i + 1) l))
-  unfolding any
-  any-turn h = rw (drop-cons l i 0 h, add-one)
-
-  pub any-next : i < length l → p (getD l i 0) ≡ false → any p (drop i l) ≡ any p (drop (i + 1) l)
-  any-next h e = any-turn h ∙ (rw e)
-
-  pub any-stop : i < length l → p (getD l i 0) ≡ true → any p (drop i l) ≡ true
-  any-stop h e = any-turn h ∙ (rw e)
-
-  pub any-end : length l ≤ i → any p (drop i l) ≡ false
-  unfolding any
-  any-end h = rw (drop-of-length-le l h)
 
 -- the ends of no row, and of one row more
 

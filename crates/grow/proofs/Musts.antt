@@ -10,6 +10,7 @@ use native.Mathlib.Decide.{ℕ-discrete}
 use native.Mathlib.Omega.{arith}
 use lib.Dec.{T, T-not, eqb, eqb→eq, not-T}
 use lib.ListN.{length, length-append}
+use borrow.Author.Tests.{eq-eqb, ne-eqb}
 use lib.Seq.{append-snoc}
 use Rattle.lists.specs.Lists.{filterB, member}
 use Rattle.lists.proofs.Distinct.{Distinct, filled, filter-distinct}
@@ -28,7 +29,7 @@ use Rattle.states.proofs.Full.{Accepted, Full, LeastFull, begun-after}
 use Rattle.states.proofs.Due.{Accepts, Due, accepts-end, accepts-least, accepts-legal, begun-walk}
 use Rattle.words.specs.Words.{bit, has, minus}
 use Rattle.words.proofs.Words.{has-minus, has-zero}
-use Rattle.spread.specs.Spread.{neighboursOf, openAt}
+use Rattle.spread.specs.Spread.{neighboursOf, openAt, seedsOf, spreadOf}
 use Rattle.spread.proofs.Ready.{Charted, Ready}
 use Rattle.spread.proofs.Spreads.{neighbours-charted, open-in, spread-reaches}
 use Rattle.search.specs.Search.{firstStepOf}
@@ -270,6 +271,21 @@ module _ {g : Graph} {nb mustNb mustFirsts mustSeconds : List ℕ} {limit : ℕ}
   pub accepted-none : acceptedOf nb (g .firstEnds) (g .secondEnds) mustNb mustFirsts mustSeconds limit fresh (s .entered) (s .place) (s .node) ≡ none
       → (m : Key) → Legal g (rowNumbers g) s m → ¬ Accepted g s musts m
   accepted-none e = subst Told e accepted-told
+
+-- What the code has found is the accepted step: with no fresh node at the end of a must row, and with some
+
+module _ (nb firsts seconds mustNb mustFirsts mustSeconds : List ℕ) (limit fresh : ℕ) (entered : List ℕ) (place node : ℕ) {ends : ℕ} (read : ends ≡ openAt mustNb fresh 0) {o : Option Key} where
+  pub accepted-idle : ends ≡ 0 → o ≡ firstStepOf nb firsts seconds limit fresh entered place node
+      → o ≡ acceptedOf nb firsts seconds mustNb mustFirsts mustSeconds limit fresh entered place node
+  unfolding acceptedOf
+  accepted-idle e d = rw (← read, eq-eqb ends 0 e) d
+
+  pub accepted-claimed : {seeds claimed unclaimed : ℕ} {any must : Option Key} → ¬ (ends ≡ 0) → seeds ≡ seedsOf mustNb fresh entered place node
+      → claimed ≡ spreadOf mustNb limit fresh seeds → unclaimed ≡ minus fresh claimed → any ≡ firstStepOf nb firsts seconds limit unclaimed entered place node
+      → must ≡ firstStepOf mustNb mustFirsts mustSeconds limit fresh entered place node → o ≡ earlierOf any must
+      → o ≡ acceptedOf nb firsts seconds mustNb mustFirsts mustSeconds limit fresh entered place node
+  unfolding acceptedOf claimedOf
+  accepted-claimed n e1 e2 e3 e4 e5 d = rw (← read, ne-eqb ends 0 n, ← e1, ← e2, ← e3, ← e4, ← e5) d
 
 -- A path that grows
 

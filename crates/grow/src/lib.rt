@@ -1,4 +1,6 @@
-//! Growing a path by first steps, and whether a step can be skipped. Each function is equal to its model in specs/Grow.antt.
+//! Growing a path by first steps, of any rows or so that all must rows stay in reach, and whether a step can be skipped.
+//! `heads` and `tails` are the ends of the must rows, 0 for every other row, and `claims` the neighbours by them: place 0 has all their ends.
+//! Each function is equal to its model in specs/Grow.antt or specs/Musts.antt.
 ghost use mathlib.Core.Path.{_≡_};
 ghost use Rattle.paths.specs.Path.{enteredBy, keysOf, plantOf};
 ghost use Rattle.graph.specs.Paths.{follows};

@@ -50,7 +50,7 @@ fn musts_on(file: &[u8], path: Path) -> bool
 {
     let steps = path.length();
     let rows = path.rows;
-    drawn::musts_dug(file, &rows[..steps])
+    row_states::musts_dug(file, &rows[..steps])
 }
 
 /// Open's checks, then 12; the sizes of a file whose network has a tree.

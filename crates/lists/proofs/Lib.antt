@@ -6,3 +6,4 @@ pub mod Sequences
 pub mod Orders
 pub mod Ascending
 pub mod Ranges
+pub mod Drops

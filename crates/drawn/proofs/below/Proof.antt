@@ -5,7 +5,7 @@ use lib.Dec.{ltb}
 use lib.ListN.{drop, length}
 use borrow.Author.Tests.{le-ltb, lt-ltb}
 use Rattle.lists.specs.Lists.{all}
-use Rattle.drawn.proofs.Laws.{all-end, all-next, all-stop}
+use Rattle.lists.proofs.Drops.{all-end, all-next, all-stop}
 use borrow.Author.Needs.{needs}
 use Rattle.drawn.proofs.below.Statement.{statement}
 use Rattle.drawn.proofs.below.Tie as tie

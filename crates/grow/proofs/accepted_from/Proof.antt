@@ -1,7 +1,5 @@
-use mathlib.Core.Path.{_∙_}
 use borrow.Author.Needs.{needs}
-use borrow.Author.Tests.{eq-eqb, ne-eqb}
-use Rattle.grow.specs.Musts.{acceptedOf, claimedOf}
+use Rattle.grow.proofs.Musts.{accepted-claimed, accepted-idle}
 use Rattle.grow.proofs.accepted_from.Statement.{statement}
 use Rattle.grow.proofs.accepted_from.Tie as tie
 
@@ -12,8 +10,7 @@ step-from-requires : tie.Need-step-from-requires
 step-from-requires c κs = search needs
 
 returns : tie.Need-returns
-unfolding acceptedOf
-returns c = rw (← c .before .before .open-at .ensures, eq-eqb _ _ (c .before .if1 .taken)) (c .step-from .ensures)
+returns c = accepted-idle _ _ _ _ _ _ _ _ _ _ _ (c .before .before .open-at .ensures) (c .before .if1 .taken) (c .step-from .ensures)
 
 must-seeds-requires : tie.Need-must-seeds-requires
 must-seeds-requires c κs = search needs
@@ -34,13 +31,12 @@ earlier-requires : tie.Need-earlier-requires
 earlier-requires c κs = search needs
 
 returns-2 : tie.Need-returns-2
-unfolding acceptedOf claimedOf
 returns-2 c =
     let claimed = c .before .before .before .before in
     let seeds = claimed .before in
     let fresh = seeds .before in
-    rw (← fresh .before .open-at .ensures, ne-eqb _ _ (fresh .if1 .left))
-    (c .earlier .ensures ∙ (rw (c .before .before .step-from2 .ensures, c .before .step-from3 .ensures, c .before .before .before .minus .ensures, claimed .spread .ensures, seeds .must-seeds .ensures)))
+    accepted-claimed _ _ _ _ _ _ _ _ _ _ _ (fresh .before .open-at .ensures) (fresh .if1 .left) (seeds .must-seeds .ensures) (claimed .spread .ensures)
+    (c .before .before .before .minus .ensures) (c .before .before .step-from2 .ensures) (c .before .step-from3 .ensures) (c .earlier .ensures)
 
 pub accepted-from-spec : {M : Type 1} → statement M
 accepted-from-spec =

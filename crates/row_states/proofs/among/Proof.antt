@@ -5,10 +5,10 @@ use lib.Dec.{eqb}
 use lib.ListN.{drop, length}
 use borrow.Author.Tests.{eq-eqb, ne-eqb}
 use Rattle.lists.specs.Lists.{any, member}
-use Rattle.drawn.proofs.Laws.{any-end, any-next, any-stop}
+use Rattle.lists.proofs.Drops.{any-end, any-next, any-stop}
 use borrow.Author.Needs.{needs}
-use Rattle.drawn.proofs.among.Statement.{statement}
-use Rattle.drawn.proofs.among.Tie as tie
+use Rattle.row_states.proofs.among.Statement.{statement}
+use Rattle.row_states.proofs.among.Tie as tie
 
 abbrev Inv-loop : tie.InvT-loop
 Inv-loop rows row i₀ i = member row rows ≡ any (λ y. eqb row y) (drop i rows)

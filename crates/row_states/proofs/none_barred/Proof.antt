@@ -7,10 +7,10 @@ use borrow.Author.Tests.{not-false, not-true}
 use Rattle.lists.specs.Lists.{all}
 use Rattle.costs.specs.Layouts.{barredAt}
 use Rattle.network_file.specs.File.{networkOf}
-use Rattle.drawn.proofs.Laws.{all-end, all-next, all-stop}
+use Rattle.lists.proofs.Drops.{all-end, all-next, all-stop}
 use borrow.Author.Needs.{needs}
-use Rattle.drawn.proofs.none_barred.Statement.{statement}
-use Rattle.drawn.proofs.none_barred.Tie as tie
+use Rattle.row_states.proofs.none_barred.Statement.{statement}
+use Rattle.row_states.proofs.none_barred.Tie as tie
 
 abbrev Inv-loop : tie.InvT-loop
 Inv-loop file rows i₀ i =

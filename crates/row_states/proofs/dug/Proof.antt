@@ -3,8 +3,8 @@ use borrow.Author.Needs.{needs}
 use Rattle.costs.specs.Layouts.{isMust, mustAt}
 use Rattle.costs.specs.Network.{Row}
 use Rattle.network_file.specs.File.{networkOf}
-use Rattle.drawn.proofs.dug.Statement.{statement}
-use Rattle.drawn.proofs.dug.Tie as tie
+use Rattle.row_states.proofs.dug.Statement.{statement}
+use Rattle.row_states.proofs.dug.Tie as tie
 
 row-at-requires : tie.Need-row-at-requires
 row-at-requires c κs = search needs

@@ -7,9 +7,9 @@ use Rattle.costs.specs.Layouts.{mustRows}
 use Rattle.lists.proofs.Ranges.{all-range-end, all-range-next, all-range-stop}
 use Rattle.lists.specs.Lists.{all, hasAll, range}
 use Rattle.network_file.specs.File.{networkOf}
-use Rattle.drawn.proofs.States.{dugAt, musts-start}
-use Rattle.drawn.proofs.musts_dug.Statement.{statement}
-use Rattle.drawn.proofs.musts_dug.Tie as tie
+use Rattle.row_states.proofs.States.{dugAt, musts-start}
+use Rattle.row_states.proofs.musts_dug.Statement.{statement}
+use Rattle.row_states.proofs.musts_dug.Tie as tie
 
 abbrev Inv-loop : tie.InvT-loop
 Inv-loop file rows m r₀ r = hasAll (mustRows (networkOf file)) rows ≡ all (dugAt file rows) (range r (m - r))

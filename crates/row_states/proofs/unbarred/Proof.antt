@@ -3,8 +3,8 @@ use mathlib.Core.Bool.{not}
 use borrow.Author.Needs.{needs}
 use Rattle.costs.specs.Layouts.{isBarred}
 use Rattle.costs.specs.Network.{Row}
-use Rattle.drawn.proofs.unbarred.Statement.{statement}
-use Rattle.drawn.proofs.unbarred.Tie as tie
+use Rattle.row_states.proofs.unbarred.Statement.{statement}
+use Rattle.row_states.proofs.unbarred.Tie as tie
 
 row-at-requires : tie.Need-row-at-requires
 row-at-requires c κs = search needs

@@ -1,7 +1,7 @@
 use mathlib.Core.Path.{_∙_, sym}
 use borrow.Author.Needs.{needs}
-use Rattle.drawn.proofs.states_kept.Statement.{statement}
-use Rattle.drawn.proofs.states_kept.Tie as tie
+use Rattle.row_states.proofs.states_kept.Statement.{statement}
+use Rattle.row_states.proofs.states_kept.Tie as tie
 
 musts-dug-requires : tie.Need-musts-dug-requires
 musts-dug-requires c κs = search needs
