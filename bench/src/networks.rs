@@ -1,7 +1,7 @@
 //! The networks that are measured. Node 1 is the plant; costs and streets come from a fixed seed.
 
 use planner_tests::draw;
-use planner_tests::file::{Network, Row, BARRED, MUST};
+use planner_tests::file::{Network, Row, BARRED, MUST, OPEN};
 use planner_tests::rng::Rng;
 use planner_tests::trees;
 
@@ -70,7 +70,7 @@ pub fn line(n: u8, beside: usize) -> Network {
 pub fn with_states(network: Network, musts: usize, barred: usize) -> Network {
     let tree = draw::forest(&mut Rng::new(1), &network);
     let beside = (0..network.m() as u16).filter(|row| !tree.contains(row));
-    let mut states = vec![0; network.m()];
+    let mut states = vec![OPEN; network.m()];
     for row in beside.take(barred) {
         states[row as usize] = BARRED;
     }
@@ -84,7 +84,7 @@ pub fn with_states(network: Network, musts: usize, barred: usize) -> Network {
 pub fn line_with_barred(n: u8, beside: usize) -> Network {
     let network = line(n, beside);
     let states: Vec<u8> = (0..network.m())
-        .map(|row| if row % beside == 0 { BARRED } else { 0 })
+        .map(|row| if row % beside == 0 { BARRED } else { OPEN })
         .collect();
     network.with_states(&states)
 }
@@ -93,7 +93,7 @@ pub fn line_with_barred(n: u8, beside: usize) -> Network {
 pub fn must_path(n: u8) -> Network {
     let others = random(n, 257 - n as usize, &[0]);
     let mut pairs: Vec<[u8; 2]> = others.rows.iter().map(|row| row.ends).collect();
-    let mut states = vec![0; pairs.len()];
+    let mut states = vec![OPEN; pairs.len()];
     pairs.extend((1..n).map(|a| [a + 1, a]));
     states.resize(pairs.len(), MUST);
     with_rows(n, &pairs, &[0]).with_states(&states)

@@ -90,6 +90,15 @@ pub fn fresh_after(nodes: u64, path: Path) -> u64
     word
 }
 
+// The nodes that rows with these neighbours enter next from a bound on.
+fn seeds_from(neighbours: &[u64], fresh: u64, path: Path, place: usize, node: u8) -> u64
+    ensures { λ r. ⌜ r ≡ seedsOf (now (neighbours .entry)) fresh (enteredBy (plantOf path) (keysOf path)) place node ⌝ }
+{
+    let nodes = path.nodes;
+    let n = path.length() + 1;
+    spread::seeds(neighbours, fresh, &nodes[..n], place, node)
+}
+
 /// Whether the node is still reached from the bound on.
 pub fn open_past(
     neighbours: &[u64],
@@ -101,9 +110,7 @@ pub fn open_past(
 ) -> bool
     ensures { λ r. ⌜ r ≡ openPast (now (neighbours .entry)) limit (plantOf path) fresh (keysOf path) place node ⌝ }
 {
-    let nodes = path.nodes;
-    let n = path.length() + 1;
-    let seeds = spread::seeds(neighbours, fresh, &nodes[..n], place, node);
+    let seeds = seeds_from(neighbours, fresh, path, place, node);
     // the spread keeps the seeds
     if words::has(seeds, node) {
         return true;
@@ -138,15 +145,6 @@ fn earlier(a: Found, b: Found) -> Found
     if precedes(second, first) { b } else { a }
 }
 
-// The nodes that must rows enter next from a bound on.
-fn must_seeds(claims: &[u64], fresh: u64, path: Path, place: usize, node: u8) -> u64
-    ensures { λ r. ⌜ r ≡ seedsOf (now (claims .entry)) fresh (enteredBy (plantOf path) (keysOf path)) place node ⌝ }
-{
-    let nodes = path.nodes;
-    let n = path.length() + 1;
-    spread::seeds(claims, fresh, &nodes[..n], place, node)
-}
-
 /// The first step of a path from a bound on by a must row, or by any row to a node that must rows do not lead to.
 pub fn accepted_from(
     neighbours: &[u64],
@@ -167,7 +165,7 @@ pub fn accepted_from(
     if spread::open_at(claims, fresh, 0) == 0 {
         return step_from(neighbours, firsts, seconds, limit, fresh, path, place, node);
     }
-    let seeds = must_seeds(claims, fresh, path, place, node);
+    let seeds = seeds_from(claims, fresh, path, place, node);
     let claimed = spread::spread(claims, limit, fresh, seeds);
     let unclaimed = words::minus(fresh, claimed);
     let any = step_from(

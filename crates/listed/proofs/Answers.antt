@@ -1,6 +1,6 @@
 -- What `listed` comes to by Open's answer and the first path (`listed-stops`, `listed-short`, `listed-lost`, `listed-some`), and what its callers learn from its answer.
 use mathlib.Core.Path.{_∙_, _≡_, ap, refl, sym}
-use mathlib.Core.Bool.{Bool, false, true}
+use mathlib.Core.Bool.{false, true}
 use mathlib.Core.Option.{none, some}
 use mathlib.Core.List.{List, [], _∷_, map, List·Memᴰ·head as here}
 use Prim.Native.Nat.{_-_, _≤_, ℕ}

@@ -1,11 +1,10 @@
 -- What the walk is given of an accepted file fits the graph without the barred rows (`file-fitted`) and the must rows (`file-mustered`); so the
 -- first path tells whether the network has a tree (`listed-test`).
-use mathlib.Core.Path.{_∙_, _≡_, ap, refl, subst, sym}
-use mathlib.Core.Bool.{Bool}
+use mathlib.Core.Path.{_≡_, ap, refl, subst, sym}
 use mathlib.Core.List.{List, [], _∷_, map}
 use Prim.Native.Nat.{_-_, ℕ}
 use native.Mathlib.Omega.{arith}
-use lib.Dec.{T, eqb, eqb→eq}
+use lib.Dec.{eqb, eqb→eq}
 use lib.ListN.{length, length-map}
 use Rattle.lists.specs.Lists.{both, hasAll}
 use Rattle.lists.proofs.Members.{_∈_, hasAll-in, hasAll-out, range-out}

@@ -1,7 +1,7 @@
 -- Page's checks, one after the other: what the call comes to where the first is not met (`page-listed`, `page-short`, `page-start`), and
 -- where all are met (`page-met`). Of a start: its checks by the answer to its rows as drawn (`start-drawn`, `start-path`).
 use mathlib.Core.Path.{_∙_, _≡_, ap, refl, subst, sym}
-use mathlib.Core.Bool.{Bool, false, true}
+use mathlib.Core.Bool.{Bool}
 use mathlib.Core.Option.{Option·some-injective, none, some}
 use mathlib.Core.List.{List, [], _++_, _∷_, append-assoc, List·Memᴰ·head as here, List·Memᴰ·tail as there}
 use Prim.Native.Nat.{_-_, _<_, _≤_, ℕ}

@@ -10,7 +10,7 @@ use Rattle.lists.proofs.Members.{_∈_, filter-whole}
 use Rattle.lists.proofs.Tests.{T-true}
 use Rattle.checks.specs.Checks.{Ended, firstUnmet}
 use Rattle.costs.specs.Layouts.{mustEnd, mustFirsts, mustRows, mustSeconds, openEnd}
-use Rattle.costs.specs.Network.{Row, rowAt}
+use Rattle.costs.specs.Network.{Row}
 use Rattle.ends.specs.declared.Rows.the-variants.{Must, Unbarred}
 use Rattle.ends.proofs.Ends.{ends-length, first-part, nodes-graph, second-part}
 use Rattle.ends.specs.Ends.{endsBy, nodesWord}

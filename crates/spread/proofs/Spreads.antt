@@ -9,7 +9,7 @@ use native.Mathlib.Omega.{arith}
 use lib.Dec.{T, eqb, eqb→eq, ltb, ltb→lt, lt→ltb}
 use lib.ListN.{getD, length, length-set}
 use lib.Seq.{getD-set-other, getD-set-same}
-use borrow.Author.Tests.{eq-eqb, lt-ltb}
+use borrow.Author.Tests.{lt-ltb}
 use Rattle.lists.specs.Lists.{range}
 use Rattle.lists.proofs.Ascending.{getD-mem}
 use Rattle.lists.proofs.Members.{_∈_, range-in, range-out}

@@ -1,7 +1,7 @@
 -- The trees of a network counted through pages. Only how many there are is computed; what each call of Page comes to follows from
 -- what the run of calls is proved to do (crates pages and operations).
 use mathlib.Core.Path.{_∙_, _≡_, ap, refl, sym}
-use mathlib.Core.Bool.{Bool, false, true}
+use mathlib.Core.Bool.{Bool}
 use mathlib.Core.Option.{none, some}
 use mathlib.Core.List.{List, [], _++_, _∷_}
 use Prim.Native.Nat.{_*_, _+_, _-_, _/_, _<_, _≤_, min, pred, suc, zero, ℕ}

@@ -12,8 +12,8 @@ step-from-requires c κs = search needs
 returns : tie.Need-returns
 returns c = accepted-idle _ _ _ _ _ _ _ _ _ _ _ (c .before .before .open-at .ensures) (c .before .if1 .taken) (c .step-from .ensures)
 
-must-seeds-requires : tie.Need-must-seeds-requires
-must-seeds-requires c κs = search needs
+seeds-from-requires : tie.Need-seeds-from-requires
+seeds-from-requires c κs = search needs
 
 spread-requires : tie.Need-spread-requires
 spread-requires c κs = search needs
@@ -35,7 +35,7 @@ returns-2 c =
     let claimed = c .before .before .before .before in
     let seeds = claimed .before in
     let fresh = seeds .before in
-    accepted-claimed _ _ _ _ _ _ _ _ _ _ _ (fresh .before .open-at .ensures) (fresh .if1 .left) (seeds .must-seeds .ensures) (claimed .spread .ensures)
+    accepted-claimed _ _ _ _ _ _ _ _ _ _ _ (fresh .before .open-at .ensures) (fresh .if1 .left) (seeds .seeds-from .ensures) (claimed .spread .ensures)
     (c .before .before .before .minus .ensures) (c .before .before .step-from2 .ensures) (c .before .step-from3 .ensures) (c .earlier .ensures)
 
 pub accepted-from-spec : {M : Type 1} → statement M
@@ -45,7 +45,7 @@ accepted-from-spec =
     open-at-requires
     step-from-requires
     returns
-    must-seeds-requires
+    seeds-from-requires
     spread-requires
     minus-requires
     step-from-requires-2

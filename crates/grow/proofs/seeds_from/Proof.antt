@@ -2,8 +2,8 @@ use native.Mathlib.Omega.{arith}
 use lib.ListN.{length-map, length-take}
 use Rattle.paths.proofs.Laws.{entered-is}
 use borrow.Author.Needs.{needs}
-use Rattle.grow.proofs.must_seeds.Statement.{statement}
-use Rattle.grow.proofs.must_seeds.Tie as tie
+use Rattle.grow.proofs.seeds_from.Statement.{statement}
+use Rattle.grow.proofs.seeds_from.Tie as tie
 
 length-requires : tie.Need-length-requires
 length-requires c κs = search needs
@@ -32,8 +32,8 @@ returns c =
     let entered = entered-is (c .before .before .before .before .before .args .path) nodes rows pivots in
     rw (← entered, ← c .before .before .length .ensures) (c .seeds .ensures)
 
-pub must-seeds-spec : {M : Type 1} → statement M
-must-seeds-spec =
+pub seeds-from-spec : {M : Type 1} → statement M
+seeds-from-spec =
     tie.close
     (tie.spec
     length-requires
