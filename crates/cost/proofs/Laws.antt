@@ -18,8 +18,9 @@ use Rattle.operations.proofs.Files.{formed}
 use Rattle.drawn.specs.Answers.{drawnCall, drawnOf}
 use Rattle.drawn.specs.declared.DrawnAnswer.{DrawnAnswer}
 use Rattle.drawn.proofs.Answers.{Passed, answered-by, call-met, call-refused, call-short}
-use Rattle.vector.specs.Vector.{rowsIn, vectorOf}
+use Rattle.vector.specs.Vector.{vectorOf}
 use Rattle.vector.proofs.Vectors.{rows-few, vector-costs, vector-most}
+use Rattle.paths.specs.Path.{rowsIn}
 
 -- Once `drawn` has answered d
 

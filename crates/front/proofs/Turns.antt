@@ -23,7 +23,7 @@ use Rattle.bounds.proofs.Skip.{cost-length}
 use Rattle.network_file.specs.File.{networkOf}
 use Rattle.operations.specs.Operations.{layoutsIn, openIn}
 use Rattle.operations.proofs.Files.{formed, layouts-open-in, several}
-use Rattle.paths.specs.Path.{enteredBy, keysOf, plantOf}
+use Rattle.paths.specs.Path.{enteredBy, keysOf, plantOf, rowsIn}
 use Rattle.paths.specs.declared.Path.{Path}
 use Rattle.grow.specs.Grow.{freshAfter}
 use Rattle.grow.specs.Musts.{growWith}
@@ -40,7 +40,6 @@ use Rattle.passes.proofs.Places.{Stands, left, left-less, stands-first, stands-
 use Rattle.scratch.specs.Scratch.{Held, Offered, offerOf}
 use Rattle.scratch.specs.declared.Scratch.{Scratch}
 use Rattle.scratch.proofs.Held.{held-bounded, held-count, held-start, held-trees, held-unbounded, held-vectors, offer-held}
-use Rattle.vector.specs.Vector.{rowsIn}
 use Rattle.front.specs.Passes.{Holding, KnownRows, Laid, Passed, scratchRows}
 
 -- The pass stands before a path, and the scratch table holds what stands behind the first n rows of the front.

@@ -9,10 +9,10 @@ use Rattle.lists.proofs.Ascending.{getD-mem}
 use Rattle.costs.specs.Costs.{costOf}
 use Rattle.network_file.specs.File.{networkOf, sizesOf}
 use Rattle.network_file.proofs.Accepted.{Accepted}
-use Rattle.paths.specs.Path.{lengthOf}
+use Rattle.paths.specs.Path.{lengthOf, rowsIn}
 use Rattle.paths.specs.declared.Path.{Path}
 use Rattle.paths.proofs.Laws.{rows-are}
-use Rattle.vector.specs.Vector.{rowsIn, vectorOf}
+use Rattle.vector.specs.Vector.{vectorOf}
 use Rattle.vector.proofs.Vectors.{rows-few, vector-costs, vector-most}
 
 module _ (f rows : List ℕ) where

@@ -1,5 +1,5 @@
 -- What opening a file to list its trees comes to: Open's checks, then 12. And the first path with all must rows, as the code grows it.
-use mathlib.Core.List.{List, [], _++_, _∷_, map}
+use mathlib.Core.List.{List, [], _++_, _∷_}
 use Prim.Native.Nat.{ℕ}
 use Rattle.checks.specs.Checks.{Check, Outcome, checked}
 use Rattle.graph.specs.Paths.{Key}
@@ -7,13 +7,8 @@ use Rattle.grow.specs.Grow.{freshAfter}
 use Rattle.grow.specs.Musts.{growWith}
 use Rattle.network_file.specs.File.{Sizes, fileChecks, sizesOf}
 use Rattle.operations.specs.Operations.{check, layoutsIn, someTree}
-use Rattle.paths.specs.Path.{enteredBy, keysOf}
-use Rattle.paths.specs.declared.Path.{Path}
+use Rattle.paths.specs.Path.{enteredBy}
 use Rattle.spread.specs.Spread.{neighboursOf}
-
--- the rows of a path
-abbrev pub rowsIn : Path → List ℕ
-rowsIn path = map (λ (k : Key). k .row) (keysOf path)
 
 abbrev pub listedChecks : List ℕ → List Check
 listedChecks f = fileChecks f ++ (check 12 (someTree (layoutsIn f)) ∷ [])

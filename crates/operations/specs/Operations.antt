@@ -1,4 +1,5 @@
--- Document 01's operations but Open (crate network), with document 02's row states (#102): each gives, for every input, its outcome and every lent buffer afterwards.
+-- Document 01's operations but Open (crate network_file), with document 02's row states (#102): each gives, for every input, its outcome and
+-- every lent buffer afterwards.
 -- Each has its whole table of checks, in document 01's order. A definition that says "asked only after check .." may answer
 -- anything before: the table stops at the first check that is not met.
 use mathlib.Core.Bool.{Bool, _&&_, false, true}

@@ -7,11 +7,10 @@ use lib.ListN.{length, length-map, take}
 use borrow.Author.Tests.{le-leb, lt-leb}
 use Rattle.checks.specs.Checks.{answered, refused}
 use Rattle.operations.specs.Operations.{orderCall, orderChecks, over, pathIn}
-use Rattle.paths.specs.Path.{keysOf}
+use Rattle.paths.specs.Path.{keysOf, rowsIn}
 use Rattle.drawn.specs.Answers.{drawnCall, drawnOf}
 use Rattle.drawn.specs.declared.DrawnAnswer.{DrawnAnswer}
 use Rattle.drawn.proofs.Answers.{Passed, answered-by, call-met, call-refused, call-short}
-use Rattle.order.specs.Answers.{rowsIn}
 
 -- Once `drawn` has answered d
 

@@ -3,8 +3,8 @@ ghost use mathlib.Core.Path.{_≡_};
 ghost use Prim.Native.Nat.{_≤_};
 ghost use lib.ListN.{length, take};
 ghost use Rattle.operations.specs.Operations.{orderCall, over};
-ghost use Rattle.paths.specs.Path.{keysOf};
-ghost use Rattle.order.specs.Answers.{orderedOf, rowsIn};
+ghost use Rattle.paths.specs.Path.{keysOf, rowsIn};
+ghost use Rattle.order.specs.Answers.{orderedOf};
 use paths::Path;
 
 /// The answer of Order: the path stands in the buffer.

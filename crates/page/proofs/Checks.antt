@@ -32,8 +32,9 @@ use Rattle.operations.proofs.Files.{formed}
 use Rattle.operations.specs.Operations.{check, drawnChecks, graphIn, layoutsIn, pageCall, pageChecks, someTree, startChecks, treeChecks}
 use Rattle.pages.proofs.TreePages.{Starts}
 use Rattle.pages.specs.Pages.{restAfter}
+use Rattle.paths.specs.Path.{rowsIn}
 use Rattle.page.specs.Answers.{numbered}
-use Rattle.page.specs.Walkable.{filledBy, rowsIn}
+use Rattle.page.specs.Walkable.{filledBy}
 
 -- The start
 

@@ -6,9 +6,8 @@ use lib.ListN.{List·getD-map, getD, length, length-map}
 use Rattle.graph.proofs.Growth.{rowsOf}
 use Rattle.graph.specs.Paths.{Key}
 use Rattle.paths.proofs.Laws.{keys-length}
-use Rattle.paths.specs.Path.{keysOf, lengthOf, noKey}
+use Rattle.paths.specs.Path.{keysOf, lengthOf, noKey, rowsIn}
 use Rattle.paths.specs.declared.Path.{Path}
-use Rattle.page.specs.Walkable.{rowsIn}
 
 pub rows-map : (ks : List Key) → map (λ (k : Key). k .row) ks ≡ rowsOf ks
 rows-map [] = refl

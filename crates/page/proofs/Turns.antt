@@ -15,7 +15,8 @@ use Rattle.pages.specs.Pages.{restAfter}
 use Rattle.trace.specs.Trace.{traceOf}
 use Rattle.walk.specs.Walk.{afterOf, nextOf}
 use Rattle.walk.specs.declared.Next.{Next}
-use Rattle.page.specs.Walkable.{Walkable, filledBy, listBy, rowsIn, rowsOpt}
+use Rattle.paths.specs.Path.{rowsIn}
+use Rattle.page.specs.Walkable.{Walkable, filledBy, listBy, rowsOpt}
 use Rattle.page.proofs.Filling.{Filled, filled-full, filled-next, filled-over, filled-start, read-back}
 use Rattle.page.proofs.Steps.{following-is, list-part}
 

@@ -1,5 +1,5 @@
--- What the functions below `page` are given: the ends of a graph's rows and of its must rows, its nodes as a word and the neighbours by either (`Walkable`), and a
--- start (`Startable`); and what they come to: a page filled with the trees that are left (`filledBy`).
+-- What the functions below `page` are given: the ends of a graph's rows and of its must rows, its nodes as a word and the neighbours by either
+-- (`Walkable`); and what they come to: a page filled with the trees that are left (`filledBy`).
 use mathlib.Core.Option.{Option, none, some}
 use mathlib.Core.List.{List, map}
 use Prim.Native.Nat.{_<_, ℕ}
@@ -11,15 +11,9 @@ use Rattle.graph.specs.Paths.{Key}
 use Rattle.grow.proofs.Musts.{Mustered}
 use Rattle.operations.specs.Operations.{Paged}
 use Rattle.pages.specs.Pages.{moreAfter, pageAfter, pageCount}
-use Rattle.paths.specs.Path.{keysOf}
-use Rattle.paths.specs.declared.Path.{Path}
 use Rattle.states.specs.States.{mustsOf, treesWith}
 use Rattle.walk.proofs.Behind.{Fitted}
 use Rattle.words.specs.Words.{has}
-
--- the rows of a path
-abbrev pub rowsIn : Path → List ℕ
-rowsIn path = map (λ (k : Key). k .row) (keysOf path)
 
 -- the rows of a path that may be missing
 abbrev pub rowsOpt : Option (List Key) → Option (List ℕ)

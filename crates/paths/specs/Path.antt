@@ -24,6 +24,10 @@ plantOf p = getD (p .nodes) 0 0
 unfoldable pub keysOf : Path → List Key
 keysOf p = keysFrom (take (lengthOf p) (p .pivots)) (take (lengthOf p) (drop 1 (p .nodes))) (take (lengthOf p) (p .rows))
 
+-- its rows
+abbrev pub rowsIn : Path → List ℕ
+rowsIn p = map (λ (k : Key). k .row) (keysOf p)
+
 abbrev pub nodesOf : List Key → List ℕ
 nodesOf keys = map (λ (k : Key). k .node) keys
 

@@ -23,10 +23,10 @@ use Rattle.network_file.specs.File.{Sizes, byteAt, kindOf, networkOf, rowIn, ro
 use Rattle.network_file.proofs.Accepted.{row-in, row-past}
 use Rattle.network.specs.Answers.{kindIn}
 use Rattle.network.specs.declared.ByteKind.{ByteKind}
-use Rattle.paths.specs.Path.{keysOf, lengthOf}
+use Rattle.paths.specs.Path.{keysOf, lengthOf, rowsIn}
 use Rattle.paths.specs.declared.Path.{Path}
 use Rattle.paths.proofs.Laws.{keys-length}
-use Rattle.vector.specs.Vector.{Counted, costByte, criterionOf, liesIn, rowsIn, stepRow}
+use Rattle.vector.specs.Vector.{Counted, costByte, criterionOf, liesIn, stepRow}
 
 pub path-counted : (p : Path) (n : ℕ) → n ≡ lengthOf p → length (p .nodes) ≡ 32 → length (p .rows) ≡ 31 → length (p .pivots) ≡ 31 → Counted (rowsIn p) n
 path-counted p n e nodes rows pivots =

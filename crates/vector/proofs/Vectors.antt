@@ -17,10 +17,10 @@ use Rattle.costs.specs.Network.{Kind}
 use Rattle.bounds.proofs.Limits.{by-kind}
 use Rattle.network_file.specs.File.{byteAt, consKind, kindBytes, kindOf, kindsOf, networkOf, sizesOf}
 use Rattle.network_file.proofs.Accepted.{Accepted}
-use Rattle.paths.specs.Path.{keysOf}
+use Rattle.paths.specs.Path.{keysOf, rowsIn}
 use Rattle.paths.specs.declared.Path.{Path}
 use Rattle.paths.proofs.Laws.{keys-most}
-use Rattle.vector.specs.Vector.{costByte, criterionOf, rowsIn, vectorOf}
+use Rattle.vector.specs.Vector.{costByte, criterionOf, vectorOf}
 
 pub rows-few : (p : Path) → length (rowsIn p) ≤ 31
 rows-few p = omega (arith, length-map (keysOf p) (λ (k : Key). k .row), keys-most p)

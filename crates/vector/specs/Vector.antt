@@ -7,16 +7,9 @@ use Prim.Native.Nat.{_+_, _≤_, ℕ}
 use lib.Dec.{eqb, ltb}
 use lib.ListN.{drop, getD, length}
 use Rattle.lists.specs.Lists.{any, pick, range}
-use Rattle.graph.specs.Paths.{Key}
 use Rattle.costs.specs.Costs.{costAt, costBy, streetCost}
 use Rattle.costs.specs.Network.{Kind, Network, rowAt}
 use Rattle.network_file.specs.File.{byteAt, kindOf, networkOf, sizesOf}
-use Rattle.paths.specs.Path.{keysOf}
-use Rattle.paths.specs.declared.Path.{Path}
-
--- the rows of a path, in the order of its steps
-abbrev pub rowsIn : Path → List ℕ
-rowsIn p = map (λ (k : Key). k .row) (keysOf p)
 
 -- n counts the rows of a path, which are at most 31
 pub record Counted (rows : List ℕ) (n : ℕ) : Type 0 where

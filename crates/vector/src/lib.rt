@@ -7,7 +7,8 @@ ghost use Rattle.lists.specs.Lists.{any};
 ghost use Rattle.costs.specs.Costs.{addedCost, closingCost, costAt, streetCost, worstCost};
 ghost use Rattle.costs.specs.Network.{rowAt};
 ghost use Rattle.network_file.specs.File.{networkOf};
-ghost use Rattle.vector.specs.Vector.{Counted, closingAt, criterionOf, liesIn, rowsIn, stepRow, vectorOf};
+ghost use Rattle.paths.specs.Path.{rowsIn};
+ghost use Rattle.vector.specs.Vector.{Counted, closingAt, criterionOf, liesIn, stepRow, vectorOf};
 use network::ByteKind;
 use paths::Path;
 

@@ -2,8 +2,8 @@
 use mathlib.Core.Path.{refl}
 use borrow.Author.Needs.{needs}
 use Rattle.operations.specs.Operations.{layoutsIn, openIn}
-use Rattle.vector.specs.Vector.{rowsIn}
 use Rattle.passes.proofs.Places.{left}
+use Rattle.paths.specs.Path.{rowsIn}
 use Rattle.front.specs.Passes.{scratchRows}
 use Rattle.front.proofs.Turns.{Turn, turn-last, turn-less, turn-next, turn-start}
 use Rattle.front.proofs.pass.Statement.{statement}

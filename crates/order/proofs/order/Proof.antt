@@ -6,7 +6,7 @@ use native.Mathlib.Omega.{arith}
 use lib.ListN.{length, length-take, take}
 use Rattle.checks.specs.Checks.{answered}
 use Rattle.operations.specs.Operations.{over}
-use Rattle.order.specs.Answers.{rowsIn}
+use Rattle.paths.specs.Path.{rowsIn}
 use Rattle.order.proofs.Laws.{order-path, order-refused, order-short, path-length, path-part}
 use borrow.Author.Needs.{needs}
 use Rattle.order.proofs.order.Statement.{statement}

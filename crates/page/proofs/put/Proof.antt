@@ -6,7 +6,7 @@ use native.Mathlib.Omega.{arith}
 use lib.ListN.{length, length-map, length-set}
 use lib.Seq.{paste, paste-suc, paste-zero}
 use borrow.Author.Needs.{needs}
-use Rattle.page.specs.Walkable.{rowsIn}
+use Rattle.paths.specs.Path.{rowsIn}
 use Rattle.page.proofs.Rows.{row-is, rows-long}
 use Rattle.page.proofs.put.Statement.{statement}
 use Rattle.page.proofs.put.Tie as tie

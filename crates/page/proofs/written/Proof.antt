@@ -9,8 +9,7 @@ use borrow.Author.Count.{below-more}
 use borrow.Author.Needs.{needs}
 use Rattle.lists.proofs.Members.{same-of, same-out}
 use Rattle.lists.proofs.Tests.{T-false, T-true}
-use Rattle.paths.specs.Path.{lengthOf}
-use Rattle.page.specs.Walkable.{rowsIn}
+use Rattle.paths.specs.Path.{lengthOf, rowsIn}
 use Rattle.page.proofs.Rows.{row-is, rows-long}
 use Rattle.page.proofs.written.Statement.{statement}
 use Rattle.page.proofs.written.Tie as tie

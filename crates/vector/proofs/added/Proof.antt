@@ -3,7 +3,7 @@ use Prim.Native.Nat.{_-_}
 use native.Mathlib.Omega.{arith}
 use borrow.Author.Needs.{needs}
 use Rattle.network_file.specs.File.{networkOf}
-use Rattle.vector.specs.Vector.{rowsIn}
+use Rattle.paths.specs.Path.{rowsIn}
 use Rattle.vector.proofs.Laws.{AddedTo, added-end, added-fits, added-turn}
 use Rattle.vector.proofs.added.Statement.{statement}
 use Rattle.vector.proofs.added.Tie as tie

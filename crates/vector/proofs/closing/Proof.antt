@@ -2,7 +2,7 @@
 use native.Mathlib.Omega.{arith}
 use borrow.Author.Needs.{needs}
 use Rattle.network_file.specs.File.{networkOf}
-use Rattle.vector.specs.Vector.{rowsIn}
+use Rattle.paths.specs.Path.{rowsIn}
 use Rattle.vector.proofs.Streets.{ClosingTo, closing-end, closing-fits, closing-start, closing-turn}
 use Rattle.vector.proofs.closing.Statement.{statement}
 use Rattle.vector.proofs.closing.Tie as tie

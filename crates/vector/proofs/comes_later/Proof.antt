@@ -6,7 +6,8 @@ use borrow.Author.Needs.{needs}
 use borrow.Author.Tests.{eq-eqb, ne-eqb}
 use Rattle.lists.specs.Lists.{any}
 use Rattle.network_file.specs.File.{networkOf}
-use Rattle.vector.specs.Vector.{liesIn, rowsIn}
+use Rattle.paths.specs.Path.{rowsIn}
+use Rattle.vector.specs.Vector.{liesIn}
 use Rattle.vector.proofs.Laws.{any-found, any-next, any-past}
 use Rattle.vector.proofs.comes_later.Statement.{statement}
 use Rattle.vector.proofs.comes_later.Tie as tie

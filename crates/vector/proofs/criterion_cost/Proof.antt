@@ -3,7 +3,8 @@ use mathlib.Core.Path.{_∙_, _≡_}
 use borrow.Author.Needs.{needs}
 use Rattle.network.specs.Answers.{kindIn}
 use Rattle.network.specs.declared.ByteKind.{ByteKind}
-use Rattle.vector.specs.Vector.{costByte, criterionOf, rowsIn}
+use Rattle.paths.specs.Path.{rowsIn}
+use Rattle.vector.specs.Vector.{costByte, criterionOf}
 use Rattle.vector.proofs.Laws.{criterion-by, criterion-none}
 use Rattle.vector.proofs.criterion_cost.Statement.{statement}
 use Rattle.vector.proofs.criterion_cost.Tie as tie

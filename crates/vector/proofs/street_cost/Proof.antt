@@ -4,7 +4,7 @@ use Prim.Native.Nat.{_-_}
 use native.Mathlib.Omega.{arith}
 use borrow.Author.Needs.{needs}
 use Rattle.network_file.specs.File.{networkOf}
-use Rattle.vector.specs.Vector.{rowsIn}
+use Rattle.paths.specs.Path.{rowsIn}
 use Rattle.vector.proofs.Laws.{StreetTo, street-end, street-fits, street-skip, street-turn}
 use Rattle.vector.proofs.street_cost.Statement.{statement}
 use Rattle.vector.proofs.street_cost.Tie as tie

@@ -2,7 +2,7 @@
 use Prim.Native.Nat.{_-_}
 use borrow.Author.Needs.{needs}
 use Rattle.network_file.specs.File.{networkOf}
-use Rattle.vector.specs.Vector.{rowsIn}
+use Rattle.paths.specs.Path.{rowsIn}
 use Rattle.vector.proofs.Laws.{WorstTo, worst-end, worst-more, worst-same}
 use Rattle.vector.proofs.worst.Statement.{statement}
 use Rattle.vector.proofs.worst.Tie as tie
