@@ -28,11 +28,6 @@ impl<T: Copy + PartialEq + Debug> Lent<T> {
         &mut self.now[..self.places]
     }
 
-    /// What stands in the first places now.
-    pub fn first(&self, places: usize) -> &[T] {
-        &self.now[..places]
-    }
-
     /// Fails unless these values stand in the first places and every other place has kept its content.
     pub fn expect(&self, written: &[T], told: impl Fn() -> String) {
         let mut expected = self.before.clone();

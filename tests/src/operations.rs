@@ -66,6 +66,8 @@ pub struct Listed {
     pub network: Network,
     pub list: Vec<Vec<u16>>,
     pub front: Vec<Vector>,
+    /// beside each vector of the front the first tree of the list that has it
+    pub witnesses: Vec<Vec<u16>>,
 }
 
 impl Listed {
@@ -73,9 +75,12 @@ impl Listed {
     pub fn read(file: &[u8]) -> Result<Listed, u32> {
         let network = reading::network(file)?;
         let list = trees::list(&network);
-        let vectors = list.iter().map(|tree| costs::vector(&network, tree));
-        let front = costs::front(vectors.collect());
+        let vectors: Vec<Vector> = list.iter().map(|t| costs::vector(&network, t)).collect();
+        let front = costs::front(vectors.clone());
+        let place = |vector: &Vector| vectors.iter().position(|v| v == vector).unwrap();
+        let witnesses = front.iter().map(|vector| list[place(vector)].clone());
         Ok(Listed {
+            witnesses: witnesses.collect(),
             network,
             list,
             front,
@@ -118,9 +123,10 @@ pub fn page<'a>(
     })
 }
 
-/// What Front writes, vector by vector, and its mark.
+/// What Front writes, vector by vector and tree by tree, and its mark.
 pub struct Fronted<'a> {
     pub vectors: &'a [Vector],
+    pub witnesses: &'a [Vec<u16>],
     pub whole: bool,
 }
 
@@ -134,6 +140,7 @@ pub fn front(
         network,
         list,
         front,
+        witnesses,
     } = file.as_ref().map_err(|&number| number)?;
     if list.is_empty() {
         return Err(12);
@@ -142,8 +149,10 @@ pub fn front(
         return Err(11);
     }
     let capacity = (cost_places / network.k()).min(witness_places / network.width());
+    let count = front.len().min(capacity);
     Ok(Fronted {
-        vectors: &front[..front.len().min(capacity)],
+        vectors: &front[..count],
+        witnesses: &witnesses[..count],
         whole: front.len() <= capacity,
     })
 }

@@ -1,5 +1,6 @@
-//! Front, as linked from the proved library, held to documents 01 and 02 and to the front by subsets of rows: worked
-//! networks first, then seeded ones with tables of any length, both tables compared whole.
+//! Front, as linked from the proved library, held to documents 01 and 02 and to the front by subsets of rows, each
+//! witness to the first tree of the list that has its vector: worked networks first, then seeded ones with tables of any
+//! length, both tables compared whole.
 
 use std::collections::BTreeSet;
 
@@ -24,44 +25,48 @@ fn hold(
     let mut witnesses = Lent::new(witness_places, || rng.word() as u16);
     let mut answer = Lent::new(answer_places, || rng.word() as u32);
     let code = ffi::front(file, costs.part(), witnesses.part(), answer.part());
-    let (expected, vectors, counted) = match operations::front(read, cost_places, witness_places) {
-        _ if answer_places < 2 => (SHORT_ANSWER, &[][..], vec![]),
-        Ok(fronted) => {
-            let counted = vec![fronted.vectors.len() as u32, fronted.whole as u32];
-            (0, fronted.vectors, counted)
-        }
-        Err(number) => (number, &[][..], vec![]),
+    let (expected, written) = match operations::front(read, cost_places, witness_places) {
+        _ if answer_places < 2 => (SHORT_ANSWER, None),
+        Ok(fronted) => (0, Some(fronted)),
+        Err(number) => (number, None),
     };
     let told = || format!("Front of {cost_places} and {witness_places} places, file {file:02x?}");
     assert_eq!(code, expected, "{}", told());
+    let (counted, vectors, trees) = match written {
+        None => (vec![], vec![], vec![]),
+        Some(fronted) => (
+            vec![fronted.vectors.len() as u32, fronted.whole as u32],
+            fronted.vectors.concat(),
+            fronted.witnesses.concat(),
+        ),
+    };
     answer.expect(&counted, told);
-    costs.expect(&vectors.concat(), told);
-
-    // Document 01 leaves open which tree of a vector stands beside it, so those that do are held to be trees of the
-    // list with that vector, and the places behind them to be as they were.
-    let mut filled = 0;
-    if let (Ok(listed), false) = (read, vectors.is_empty()) {
-        let width = listed.network.width();
-        filled = vectors.len() * width;
-        for (witness, vector) in witnesses.first(filled).chunks(width).zip(vectors) {
-            assert!(listed.list.iter().any(|tree| tree == witness), "{}", told());
-            assert_eq!(costs::vector(&listed.network, witness), *vector);
-        }
-    }
-    let written = witnesses.first(filled).to_vec();
-    witnesses.expect(&written, told);
+    costs.expect(&vectors, told);
+    witnesses.expect(&trees, told);
     expected
 }
 
-/// The front through tables of so many rows, and whether it is marked as whole.
-fn front(network: &Network, capacity: usize) -> (Vec<Vector>, bool) {
+/// Both tables' rows where each has room for so many, and whether they are marked as the whole front.
+fn front_rows(network: &Network, capacity: usize) -> (Vec<Vector>, Vec<Vec<u16>>, bool) {
     let mut costs = vec![0; capacity * network.k()];
     let mut witnesses = vec![0; capacity * network.width()];
     let mut answer = [0; 2];
     let code = ffi::front(&network.encode(), &mut costs, &mut witnesses, &mut answer);
     assert_eq!(code, 0);
-    let rows = costs.chunks(network.k()).take(answer[0] as usize);
-    (rows.map(<[u32]>::to_vec).collect(), answer[1] == 1)
+    let count = answer[0] as usize;
+    let vectors = costs.chunks(network.k()).take(count);
+    let trees = witnesses.chunks(network.width()).take(count);
+    (
+        vectors.map(<[u32]>::to_vec).collect(),
+        trees.map(<[u16]>::to_vec).collect(),
+        answer[1] == 1,
+    )
+}
+
+/// The front through tables of so many rows, and whether it is marked as whole.
+fn front(network: &Network, capacity: usize) -> (Vec<Vector>, bool) {
+    let (vectors, _, whole) = front_rows(network, capacity);
+    (vectors, whole)
 }
 
 #[test]
@@ -72,6 +77,7 @@ fn network_a_of_document_01() {
     assert_eq!(front(&a, 2), (whole[..2].to_vec(), false));
     assert_eq!(front(&a, 3), (whole.clone(), true));
     assert_eq!(front(&a, 512), (whole, true));
+    assert_eq!(front_rows(&a, 512).1, [[0, 3], [2, 3], [1, 2]]);
 }
 
 /// The front is over the trees that keep the states: a vector may join it whose dominating trees are left out.
@@ -213,6 +219,49 @@ fn a_full_table_is_not_a_cut_front() {
     }
 }
 
+/// Each row twice, one behind the other.
+fn doubled(network: &Network) -> Network {
+    let mut twice = network.clone();
+    twice.rows = network
+        .rows
+        .iter()
+        .flat_map(|row| [row.clone(), row.clone()])
+        .collect();
+    twice
+}
+
+/// These trees in the doubled network, by the first row of each two or by the second.
+fn by_side(trees: &[Vec<u16>], side: u16) -> Vec<Vec<u16>> {
+    let tree = |rows: &Vec<u16>| rows.iter().map(|row| 2 * row + side).collect();
+    trees.iter().map(tree).collect()
+}
+
+/// Document 02, #101: the first tree of the list that has the vector stands beside it, also where Front takes several
+/// passes. In a doubled network it has the first row of each two, and the second where the first is barred.
+#[test]
+fn the_first_of_trees_of_equal_cost() {
+    let networks = [
+        network_a(),
+        first_of_document_000(),
+        all_undominated(4),
+        all_undominated(7),
+    ];
+    for network in networks {
+        let (vectors, trees, _) = front_rows(&network, 512);
+        let size = vectors.len();
+        let twice = doubled(&network);
+        for capacity in [1, size / 2 + 1, size, size + 1] {
+            let count = size.min(capacity);
+            let first = by_side(&trees[..count], 0);
+            let expected = (vectors[..count].to_vec(), first, size <= capacity);
+            assert_eq!(front_rows(&twice, capacity), expected);
+        }
+        let barred = twice.with_states(&[BARRED, OPEN].repeat(network.m()));
+        let expected = (vectors, by_side(&trees, 1), true);
+        assert_eq!(front_rows(&barred, 512), expected);
+    }
+}
+
 /// How many seeded networks there are, and how many at the least must come of everything that is counted.
 const NETWORKS: u64 = 10_000;
 const ENOUGH: usize = 300;
@@ -252,12 +301,24 @@ fn tables(read: &Listed, rng: &mut Rng) -> [usize; 3] {
     [costs, witnesses, rng.pick(&[0, 1, 2, 2, 2, 2, 2, 2, 3, 5])]
 }
 
+/// Whether a vector of the front is that of several trees, so that the witness is one among them.
+fn several_trees(read: &Listed) -> bool {
+    let costs = |tree: &Vec<u16>| costs::vector(&read.network, tree);
+    let of_front = read
+        .list
+        .iter()
+        .map(costs)
+        .filter(|v| read.front.contains(v));
+    of_front.count() > read.front.len()
+}
+
 /// Front over networks that are made so.
 fn seeded(make: impl Fn(&mut Rng) -> Network) {
     let mut of_code = [0; 256];
     let mut whole = 0;
     let mut cut = 0;
     let mut single = 0;
+    let mut several = 0;
     let mut longest = 0;
     for seed in 0..NETWORKS {
         let rng = &mut Rng::new(seed);
@@ -269,6 +330,7 @@ fn seeded(make: impl Fn(&mut Rng) -> Network) {
         let read = Listed::read(&file);
         let size = read.as_ref().unwrap().front.len();
         single += (size == 1) as usize;
+        several += several_trees(read.as_ref().unwrap()) as usize;
         longest = longest.max(size);
         for _ in 0..4 {
             let tables = tables(read.as_ref().unwrap(), rng);
@@ -284,13 +346,13 @@ fn seeded(make: impl Fn(&mut Rng) -> Network) {
         }
     }
     println!("{NETWORKS} networks, the longest front {longest}");
-    println!("{single} fronts of one vector");
+    println!("{single} fronts of one vector, {several} with a vector of several trees");
     println!("calls by code, 0 to 12: {:?}", &of_code[..13]);
     println!("{whole} whole, {cut} cut, {} short answers", of_code[255]);
     for code in [0, 11, 12, 255] {
         assert!(of_code[code] >= ENOUGH, "too few: {code}");
     }
-    assert!(whole >= ENOUGH && cut >= ENOUGH && single >= ENOUGH);
+    assert!(whole >= ENOUGH && cut >= ENOUGH && single >= ENOUGH && several >= ENOUGH);
 }
 
 #[test]

@@ -32,6 +32,7 @@ fn network_a_of_document_01() {
     let printed = [[9, 7], [7, 7], [11, 5], [9, 6], [8, 6]];
     assert!(vectors.eq(printed));
     assert_eq!(read.front, [[7, 7], [8, 6], [11, 5]]);
+    assert_eq!(read.witnesses, [[0, 3], [2, 3], [1, 2]]);
     assert!(costs::dominates(&[7, 7], &[9, 7]));
     assert!(!costs::dominates(&[7, 7], &[7, 7]));
     assert!(!costs::dominates(&[7, 7], &[8, 6]) && !costs::dominates(&[8, 6], &[7, 7]));

@@ -34,7 +34,7 @@ fn numbers<T: ToString>(list: &[T]) -> String {
     list.iter().map(|x| format!(" {}", x.to_string())).collect()
 }
 
-/// The printout by document 01. Of trees of equal cost the first of the list stands beside a front's vector.
+/// The printout by document 01, with the first tree of the list beside each vector of the front (document 02, #101).
 fn printed(input: &[u8]) -> String {
     let read = Listed::read(&input[..input.len().min(MOST_BYTES)]);
     let listed = match &read {
@@ -49,9 +49,7 @@ fn printed(input: &[u8]) -> String {
         text += &format!("tree{} cost{}\n", numbers(tree), numbers(&vector));
     }
     let rows = listed.front.len().min(FRONT_ROWS);
-    for vector in &listed.front[..rows] {
-        let of_cost = |tree: &&Vec<u16>| &costs::vector(network, tree) == vector;
-        let witness = listed.list.iter().find(of_cost).unwrap();
+    for (vector, witness) in listed.front.iter().zip(&listed.witnesses).take(rows) {
         text += &format!("front{} tree{}\n", numbers(vector), numbers(witness));
     }
     let mark = if listed.front.len() <= FRONT_ROWS {

@@ -4,7 +4,8 @@ use mathlib.Core.List.{List, [], _∷_, map}
 use Prim.Native.Nat.{_+_, suc, ℕ}
 use lib.Dec.{eqb, leb, ltb}
 use lib.ListN.{getD}
-use Rattle.lists.specs.Lists.{any, filterB, largest, member, same, sort, sum}
+use Rattle.lists.specs.Lists.{any, filterB, first, largest, member, same, sort, sum}
+use Rattle.graph.specs.Paths.{pathIn}
 use Rattle.costs.specs.Network.{Kind, Network, added, closing, rowAt, worst}
 use Rattle.costs.specs.Layouts.{layouts}
 
@@ -86,5 +87,18 @@ vectors g = map (costOf g) (layouts g)
 unfoldable pub frontOf : List (List ℕ) → List (List ℕ)
 frontOf vs = sort vectorLess (once (filterB (λ v. not (any (λ w. dominates w v) vs)) vs))
 
+-- The front of some trees, and beside each of its vectors the witness: the first of the trees that has it (document 02, #101).
+
+abbrev pub frontVectors : Network → List (List ℕ) → List (List ℕ)
+frontVectors g trees = frontOf (map (costOf g) trees)
+
+-- asked only of a vector that one of the trees has
+unfoldable pub treeWith : Network → List (List ℕ) → List ℕ → List ℕ
+treeWith g trees v = pathIn (first (λ p. same v (costOf g p)) trees)
+
+unfoldable pub frontTrees : Network → List (List ℕ) → List (List ℕ)
+frontTrees g trees = map (treeWith g trees) (frontVectors g trees)
+
+-- The network's front.
 abbrev pub front : Network → List (List ℕ)
-front g = frontOf (vectors g)
+front g = frontVectors g (layouts g)

@@ -14,7 +14,7 @@ use Rattle.lists.specs.Lists.{all}
 use Rattle.lists.proofs.Members.{_∈_, all-out}
 use Rattle.lists.proofs.Tests.{T-true}
 use Rattle.graph.specs.Graph.{isTree, width}
-use Rattle.graph.specs.Paths.{Key, pathOf}
+use Rattle.graph.specs.Paths.{Key, pathIn, pathOf}
 use Rattle.graph.proofs.Minimal.{minimal-parts}
 use Rattle.graph.proofs.PathOf.{pathOf-tree}
 use Rattle.checks.specs.Checks.{Check, Ended, Outcome, answered, checked, ended, firstUnmet, refused}
@@ -24,7 +24,7 @@ use Rattle.costs.specs.Layouts.{keepsStates}
 use Rattle.network_file.specs.File.{Sizes, fileChecks, networkOf, openOf, sizesOf}
 use Rattle.network_file.proofs.Accepted.{Accepted, accepted}
 use Rattle.network_file.proofs.Opened.{open-answered, open-refused}
-use Rattle.operations.specs.Operations.{check, drawnChecks, graphIn, pathIn, treeChecks}
+use Rattle.operations.specs.Operations.{check, drawnChecks, graphIn, treeChecks}
 use Rattle.operations.proofs.Files.{formed, node-count}
 use Rattle.ends.specs.Ends.{endsBy, nodesWord}
 use Rattle.ends.specs.declared.Rows.the-variants.{All}

@@ -14,7 +14,7 @@ use Rattle.lists.proofs.Distinct.{pigeonhole}
 use Rattle.lists.proofs.Members.{_∈_, all-out}
 use Rattle.lists.proofs.Tests.{T-same, decide, eq→eqb}
 use Rattle.graph.specs.Graph.{Graph, isTree, width}
-use Rattle.graph.specs.Paths.{Key, pathOf}
+use Rattle.graph.specs.Paths.{Key, pathIn, pathOf}
 use Rattle.graph.proofs.Growth.{rowsOf, start}
 use Rattle.graph.proofs.Minimal.{WellFormed, sound-start}
 use Rattle.graph.proofs.Walk.{Leasts}
@@ -23,7 +23,7 @@ use Rattle.words.specs.Words.{has}
 use Rattle.spread.proofs.Spreads.{neighbours-charted}
 use Rattle.grow.specs.Grow.{freshAfter}
 use Rattle.grow.proofs.Grow.{Grown, fresh-ready, grow-steps}
-use Rattle.operations.specs.Operations.{check, pathIn, treeChecks}
+use Rattle.operations.specs.Operations.{check, treeChecks}
 use Rattle.drawn.specs.Only.{only, onlyEnds}
 use Rattle.drawn.specs.Tried.{drawnKeys, grownFrom, triedOf}
 use Rattle.drawn.proofs.Only.{only-formed, only-leasts, only-legal, only-length, short-no-tree, whole-path}

@@ -3,10 +3,10 @@ use mathlib.Core.List.{List, _++_, map}
 use Prim.Native.Nat.{ℕ}
 use lib.Dec.{eqb}
 use Rattle.lists.specs.Lists.{pick}
-use Rattle.graph.specs.Paths.{Key, pathOf}
+use Rattle.graph.specs.Paths.{Key, pathIn, pathOf}
 use Rattle.checks.specs.Checks.{Outcome, answered, checked, refused}
 use Rattle.network_file.specs.File.{fileChecks, networkOf}
-use Rattle.operations.specs.Operations.{drawnChecks, graphIn, pathIn}
+use Rattle.operations.specs.Operations.{drawnChecks, graphIn}
 use Rattle.paths.specs.Path.{keysOf}
 use Rattle.drawn.specs.declared.DrawnAnswer.{DrawnAnswer}
 

@@ -1,5 +1,5 @@
 -- Document 01's starred trials, as questions to the definitions of the operations, each with its answer, on network A's file; and trials
--- of document 02's row states (#102) on files with the same rows.
+-- of document 02's row states (#102) and first witness (#101) on files with the same ends.
 use mathlib.Core.Path.{_≡_}
 use mathlib.Core.Bool.{Bool, false, true}
 use mathlib.Core.List.{List, [], _∷_}
@@ -8,7 +8,7 @@ use Rattle.checks.specs.Checks.{Ended, Outcome, answered, refused}
 use Rattle.costs.specs.Costs.{dominates, front}
 use Rattle.costs.specs.Network.{Network}
 use Rattle.network_file.specs.File.{Sizes, networkOf, openOf}
-use Rattle.operations.specs.Operations.{Paged, Reached, layoutsIn, orderCall, pageCall, reachCall}
+use Rattle.operations.specs.Operations.{FrontTables, Fronted, Paged, Reached, frontCall, layoutsIn, orderCall, pageCall, reachCall}
 use Rattle.examples.specs.Examples.{A, B}
 
 -- the 59 bytes of network A's file: the sizes, the kinds, and a line for each row
@@ -35,6 +35,16 @@ withStates s0 s1 s2 s3 =
 abbrev pub fileB : List ℕ
 fileB = withStates 2 0 0 1
 
+-- network A with row 1 alike row 0 in its costs, and row 0 in this state
+abbrev pub alike : ℕ → List ℕ
+alike s0 =
+    2 ∷ 0 ∷ 0 ∷ 0 ∷ 58 ∷ 3 ∷ 0 ∷ 4 ∷ 2 ∷ 0 ∷ 1
+    ∷ 1 ∷ 2 ∷ 0 ∷ 0 ∷ s0 ∷ 0 ∷ 0 ∷ 0 ∷ 4 ∷ 0 ∷ 0 ∷ 0 ∷ 7
+    ∷ 1 ∷ 2 ∷ 0 ∷ 0 ∷ 0 ∷ 0 ∷ 0 ∷ 0 ∷ 4 ∷ 0 ∷ 0 ∷ 0 ∷ 7
+    ∷ 1 ∷ 3 ∷ 0 ∷ 0 ∷ 0 ∷ 0 ∷ 0 ∷ 0 ∷ 5 ∷ 0 ∷ 0 ∷ 0 ∷ 5
+    ∷ 2 ∷ 3 ∷ 0 ∷ 0 ∷ 0 ∷ 0 ∷ 0 ∷ 0 ∷ 3 ∷ 0 ∷ 0 ∷ 0 ∷ 6
+    ∷ []
+
 -- each of a file
 pub data Trial : Type 0 where
   opened : List ℕ → Outcome Sizes → Trial
@@ -46,6 +56,8 @@ pub data Trial : Type 0 where
   order : List ℕ → List ℕ → Ended (Unit {0}) (List ℕ) → Trial
   -- Page after this path, with a page of three places
   page : List ℕ → List ℕ → Ended Paged (List ℕ) → Trial
+  -- Front with tables of three places each, which hold one row
+  frontIn : List ℕ → Ended Fronted FrontTables → Trial
   -- and of two vectors
   dominance : List ℕ → List ℕ → Bool → Trial
 
@@ -60,6 +72,7 @@ Right (fronts f l) = front (networkOf f) ≡ l
 Right (reached f o) = reachCall f ≡ o
 Right (order f rows e) = orderCall f rows buffer ≡ e
 Right (page f start e) = pageCall f buffer start ≡ e
+Right (frontIn f e) = frontCall f buffer buffer ≡ e
 Right (dominance v w b) = dominates v w ≡ b
 
 abbrev pub AllRight : List Trial → Type 0
@@ -74,6 +87,9 @@ refusedBy e = record { outcome = refused e; buffers = buffer }
 
 abbrev paged : ℕ → Bool → List ℕ → Ended Paged (List ℕ)
 paged count more after = record { outcome = answered (record { count = count; more = more }); buffers = after }
+
+abbrev fronted : ℕ → Bool → List ℕ → List ℕ → Ended Fronted FrontTables
+fronted count whole costs witnesses = record { outcome = answered (record { count = count; whole = whole }); buffers = record { costs = costs; witnesses = witnesses } }
 
 abbrev pub table : List Trial
 table =
@@ -113,4 +129,9 @@ table =
     -- every row at node 2 is barred
     ∷ reached (withStates 2 2 0 2) (answered (record { word = 5; size = 2 }))
     ∷ page (withStates 2 2 0 2) [] (refusedBy 12)
+    -- document 02, #101: of the trees 0 3 and 1 3 of equal cost the first is the witness, where the network has it
+    ∷ frontIn fileA (fronted 1 false (7 ∷ 7 ∷ 9 ∷ []) (0 ∷ 3 ∷ 9 ∷ []))
+    ∷ frontIn (alike 0) (fronted 1 false (7 ∷ 7 ∷ 9 ∷ []) (0 ∷ 3 ∷ 9 ∷ []))
+    ∷ frontIn (alike 2) (fronted 1 false (7 ∷ 7 ∷ 9 ∷ []) (1 ∷ 3 ∷ 9 ∷ []))
+    ∷ frontIn (withStates 1 1 0 0) (record { outcome = refused 12; buffers = record { costs = buffer; witnesses = buffer } })
     ∷ []

@@ -3,24 +3,18 @@
 use mathlib.Core.Path.{_∙_, _≡_, ap, refl, sym}
 use mathlib.Core.Bool.{_&&_}
 use mathlib.Core.Option.{none, some}
-use mathlib.Core.List.{List, [], _++_, _∷_, append-assoc, List·Memᴰ·not-nil as mem-nil}
+use mathlib.Core.List.{List, [], _++_, _∷_, append-assoc}
 use Prim.Native.Nat.{_-_, _/_, _<_, _≤_, min, ℕ}
-use native.Mathlib.Omega.{arith}
 use lib.Dec.{leb}
-use lib.ListN.{length, length-take, take}
-use lib.Seq.{take-length, take-take}
+use lib.ListN.{length}
 use borrow.Author.Tests.{le-leb, lt-leb}
-use Rattle.lists.proofs.Members.{take-out}
-use Rattle.checks.specs.Checks.{Check, Ended, Outcome, firstUnmet, refused}
+use Rattle.checks.specs.Checks.{Check, Outcome, firstUnmet, refused}
 use Rattle.checks.proofs.Checks.{firstUnmet-append, firstUnmet-met, firstUnmet-unmet}
 use Rattle.checks.proofs.Ended.{ended-met, ended-unmet, firstUnmet-stops}
 use Rattle.graph.specs.Graph.{width}
-use Rattle.costs.specs.Costs.{front}
 use Rattle.network_file.specs.File.{Sizes, fileChecks, networkOf, sizesOf}
-use Rattle.operations.specs.Operations.{Fronted, Witnesses, capacity, check, frontCall, frontChecks, graphIn, layoutsIn, rowsFilled, someTree}
-use Rattle.pages.specs.Pages.{flat}
-use Rattle.passes.specs.Passes.{frontTrees}
-use Rattle.passes.proofs.FrontTrees.{front-listed, known-vectors}
+use Rattle.pages.specs.Pages.{capacity}
+use Rattle.operations.specs.Operations.{FrontTables, Fronted, check, frontCall, frontChecks, frontOver, graphIn, layoutsIn, someTree}
 use Rattle.front.specs.Passes.{Filled}
 use Rattle.listed.specs.Listed.{listedChecks}
 use Rattle.listed.proofs.Answers.{Lists}
@@ -30,28 +24,17 @@ no-check : firstUnmet [] ≡ none
 unfolding firstUnmet
 no-check = refl
 
-take-least : (n : ℕ) (l : List (List ℕ)) → take (min (length l) n) l ≡ take n l
-take-least n l =
-    let e : length (take n l) ≡ min (length l) n = length-take n l ∙ omega arith in
-    ap (λ (m : ℕ). take m l) (sym e) ∙ sym (take-take (length (take n l)) n l (omega arith)) ∙ take-length (take n l)
-
 module _ (f costs witnesses : List ℕ) where
+  abbrev lent : FrontTables
+  lent = record { costs = costs; witnesses = witnesses }
+
   -- what Front promises
   abbrev pub Right : Outcome Fronted → List ℕ → List ℕ → Type 0
-  Right o costs′ witnesses′ = (record { outcome = o; buffers = costs′ } ≡ frontCall f costs witnesses) × Witnesses f costs witnesses witnesses′
+  Right o costs′ witnesses′ = record { outcome = o; buffers = record { costs = costs′; witnesses = witnesses′ } } ≡ frontCall f costs witnesses
 
   refuse : (e : ℕ) → firstUnmet (frontChecks f costs witnesses) ≡ some e → Right (refused e) costs witnesses
-  unfolding frontCall flat
-  refuse e h =
-      let call = ended-unmet (frontChecks f costs witnesses) _ costs _ e h in (
-        sym call,
-        record {
-          paths = [];
-          listed = λ p m. absurd (mem-nil m);
-          vectors = sym (ap (λ (o : Outcome Fronted). take (rowsFilled o) (front (networkOf f))) (ap (λ r. r .outcome) call));
-          table = refl;
-        },
-      )
+  unfolding frontCall
+  refuse e h = sym (ended-unmet (frontChecks f costs witnesses) _ lent _ e h)
 
   abbrev last : Check
   last = check 11 (leb (sizesOf f .k) (length costs) && leb (width (graphIn f)) (length witnesses))
@@ -85,16 +68,7 @@ module _ (f costs witnesses : List ℕ) where
 
       pub front-filled : h .n - 1 ≤ length witnesses → (rows : ℕ) → rows ≡ min (length costs / h .k) (length witnesses / (h .n - 1))
           → (o : Outcome Fronted) (costs′ witnesses′ : List ℕ) → Filled f rows costs witnesses o costs′ witnesses′ → Right o costs′ witnesses′
-      unfolding frontCall capacity
+      unfolding frontCall frontOver capacity
       front-filled fits rows e o costs′ witnesses′ filled =
-          let same : min (length costs / sizesOf f .k) (length witnesses / width (graphIn f)) ≡ rows = rw (criteria-read, ← width-read l) (sym e) in
-          let call = ended-met (frontChecks f costs witnesses) _ costs _ (all-met fits) in
-          let count = ap (λ (n : ℕ). take (min (length (front (networkOf f))) n) (front (networkOf f))) same ∙ take-least rows (front (networkOf f)) in (
-            rw (filled .answer, filled .costs-are, ← same) (sym call),
-            record {
-              paths = take rows (frontTrees (networkOf f));
-              listed = λ p m. front-listed (networkOf f) p (take-out rows (frontTrees (networkOf f)) m);
-              vectors = known-vectors (networkOf f) rows ∙ sym (ap (λ (r : Ended Fronted (List ℕ)). take (rowsFilled (r .outcome)) (front (networkOf f))) call ∙ count);
-              table = filled .witnesses-are;
-            },
-          )
+          let same : min (length costs / length (networkOf f .kinds)) (length witnesses / width (graphIn f)) ≡ rows = rw (l .file .kinds, criteria-read, ← width-read l) (sym e) in
+          rw (filled .answer, filled .costs-are, filled .witnesses-are, ← same) (sym (ended-met (frontChecks f costs witnesses) _ lent _ (all-met fits)))

@@ -13,17 +13,16 @@ use Rattle.lists.proofs.Members.{take-out}
 use Rattle.checks.specs.Checks.{answered}
 use Rattle.graph.specs.Graph.{width}
 use Rattle.graph.proofs.Parts.{part-length}
-use Rattle.costs.specs.Costs.{front, vectors}
+use Rattle.costs.specs.Costs.{front, frontTrees, vectors}
+use Rattle.costs.proofs.FrontTrees.{front-listed, front-trees-length}
 use Rattle.costs.proofs.Fronts.{Sized, front-out}
 use Rattle.costs.proofs.Networks.{vectors-sized}
 use Rattle.network_file.specs.File.{networkOf}
 use Rattle.operations.specs.Operations.{layoutsIn, over}
 use Rattle.operations.proofs.Files.{layouts-in}
+use Rattle.operations.proofs.Over.{over-rows}
 use Rattle.pages.specs.Pages.{flat, pieces}
-use Rattle.pages.proofs.Pages.{pieces-flat}
-use Rattle.passes.specs.Passes.{frontTrees}
 use Rattle.passes.proofs.Flat.{flat-append, flat-long, flat-pieces, over-past, pieces-part}
-use Rattle.passes.proofs.FrontTrees.{front-listed, front-trees-length}
 use Rattle.scratch.specs.declared.Scratch.{Scratch}
 use Rattle.front.specs.Passes.{Filled, Holding, KnownRows, Laid, Passed, scratchRows}
 
@@ -36,11 +35,6 @@ module _ (k : ℕ) (rows : List (List ℕ)) (sized : Sized k rows) where
   module _ (n : ℕ) (few : n ≤ length rows) (t₀ : List ℕ) where
     over-length : n * k ≤ length t₀ → length (over (flat (take n rows)) t₀) ≡ length t₀
     over-length h = simp (length-append, length-drop) (omega (arith, part-long n few))
-
-    over-rows : pieces k n (over (flat (take n rows)) t₀) ≡ take n rows
-    over-rows =
-        ap (λ (m : ℕ). pieces k m (over (flat (take n rows)) t₀)) (sym (length-take-le n rows few))
-        ∙ pieces-flat k (take n rows) _ (λ v m. sized v (take-out n rows m))
 
     -- m rows more, copied from a table that holds c of them
     over-more : (m c : ℕ) (from : List ℕ) → m ≤ c → n + c ≤ length rows → pieces k c from ≡ take c (drop n rows)
@@ -65,7 +59,7 @@ pub record Standing (f : List ℕ) (k width capacity : ℕ) (costs₀ witnesses�
   pub few : n ≤ length (front (networkOf f))
   pub fits : n ≤ capacity
   pub costs-are : costs ≡ over (flat (take n (front (networkOf f)))) costs₀
-  pub witnesses-are : witnesses ≡ over (flat (take n (frontTrees (networkOf f)))) witnesses₀
+  pub witnesses-are : witnesses ≡ over (flat (take n (frontTrees (networkOf f) (layoutsIn f)))) witnesses₀
 
 module _ {f nb firsts seconds mustNb mustFirsts mustSeconds : List ℕ} {limit plant nodes width k : ℕ}
     (l : Laid f nb firsts seconds mustNb mustFirsts mustSeconds limit plant nodes width k)
@@ -76,11 +70,11 @@ module _ {f nb firsts seconds mustNb mustFirsts mustSeconds : List ℕ} {limit p
   vectors-long : Sized k F
   vectors-long v m = vectors-sized (networkOf f) (layoutsIn f) v (front-out (vectors (networkOf f)) m .0) ∙ l .accepted .kinds ∙ sym (l .criteria)
 
-  trees-long : Sized width (frontTrees (networkOf f))
-  trees-long p m = omega (arith, part-length (layouts-in f (l .accepted)) p (front-listed (networkOf f) p m), l .fitted .wide)
+  trees-long : Sized width (frontTrees (networkOf f) (layoutsIn f))
+  trees-long p m = omega (arith, part-length (layouts-in f (l .accepted)) p (front-listed (networkOf f) (layoutsIn f) p m), l .fitted .wide)
 
-  trees-few : length (frontTrees (networkOf f)) ≡ length F
-  trees-few = front-trees-length (networkOf f)
+  trees-few : length (frontTrees (networkOf f) (layoutsIn f)) ≡ length F
+  trees-few = front-trees-length (networkOf f) (layoutsIn f)
 
   -- the scratch table has room for one row more than it keeps
   pub scratch-holds : {vs ts : List ℕ} → length vs ≡ 260 → length ts ≡ 2015 → Holding (scratchRows + 1) k width vs ts
@@ -100,7 +94,7 @@ module _ {f nb firsts seconds mustNb mustFirsts mustSeconds : List ℕ} {limit p
     pub standing-long : (length costs ≡ length costs₀) × (length witnesses ≡ length witnesses₀)
     standing-long = (
       ap length (st .costs-are) ∙ over-length k F vectors-long n (st .few) costs₀ (omega (arith, lent .costs-fit, known-fits k)),
-      ap length (st .witnesses-are) ∙ over-length width (frontTrees (networkOf f)) trees-long n (omega (arith, st .few, trees-few)) witnesses₀ (omega (arith, lent .trees-fit, known-fits width)),
+      ap length (st .witnesses-are) ∙ over-length width (frontTrees (networkOf f) (layoutsIn f)) trees-long n (omega (arith, st .few, trees-few)) witnesses₀ (omega (arith, lent .trees-fit, known-fits width)),
     )
 
     -- rows more fit
@@ -114,7 +108,7 @@ module _ {f nb firsts seconds mustNb mustFirsts mustSeconds : List ℕ} {limit p
     standing-known = record {
       few = st .few;
       fits = omega (arith, standing-long .0, lent .costs-fit, known-fits k);
-      vectors = rw (st .costs-are) (over-rows k F vectors-long n (st .few) costs₀);
+      vectors = rw (st .costs-are) (over-rows k n F costs₀ vectors-long (st .few));
     }
 
     -- a pass, and its rows written that fit
@@ -129,7 +123,7 @@ module _ {f nb firsts seconds mustNb mustFirsts mustSeconds : List ℕ} {limit p
           fits = omega (arith, st .fits);
           costs-are = new-costs ∙ (rw (st .costs-are) (over-more k F vectors-long n (st .few) costs₀ fit (s .count) vs (omega arith) (p .within) (p .vectors)));
           witnesses-are = new-witnesses ∙ (rw (st .witnesses-are)
-              (over-more width (frontTrees (networkOf f)) trees-long n (omega (arith, st .few, trees-few)) witnesses₀ fit (s .count) ts (omega arith)
+              (over-more width (frontTrees (networkOf f) (layoutsIn f)) trees-long n (omega (arith, st .few, trees-few)) witnesses₀ fit (s .count) ts (omega arith)
               (omega (arith, p .within, trees-few)) (p .trees)));
         }
 
@@ -149,7 +143,7 @@ module _ {f nb firsts seconds mustNb mustFirsts mustSeconds : List ℕ} {limit p
             let short : length F ≤ capacity = omega (arith, pass-more .fits) in
             let count : min (length F) capacity ≡ n + fit = omega arith in
             let all : take (n + fit) F ≡ take capacity F = take-all (n + fit) F (omega arith) ∙ sym (take-all capacity F short) in
-            let all-trees : take (n + fit) (frontTrees (networkOf f)) ≡ take capacity (frontTrees (networkOf f)) =
+            let all-trees : take (n + fit) (frontTrees (networkOf f) (layoutsIn f)) ≡ take capacity (frontTrees (networkOf f) (layoutsIn f)) =
             take-all (n + fit) _ (omega (arith, trees-few)) ∙ sym (take-all capacity _ (omega (arith, trees-few))) in
             record { answer = rw (count, le-leb _ _ short); costs-are = pass-more .costs-are ∙ (rw all); witnesses-are = pass-more .witnesses-are ∙ (rw all-trees) }
 

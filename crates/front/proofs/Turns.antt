@@ -34,7 +34,7 @@ use Rattle.states.specs.States.{treesWith}
 use Rattle.states.proofs.Full.{Full}
 use Rattle.states.proofs.Open.{layouts-with}
 use Rattle.passes.specs.Passes.{enterBehind, knownTrees}
-use Rattle.passes.proofs.FrontTrees.{known-vectors}
+use Rattle.passes.proofs.KnownTrees.{known-vectors}
 use Rattle.passes.proofs.Passes.{pass-ends}
 use Rattle.passes.proofs.Places.{Stands, left, left-less, stands-first, stands-last, stands-next}
 use Rattle.scratch.specs.Scratch.{Held, Offered, offerOf}
@@ -47,7 +47,7 @@ pub record Turn (f : List ℕ) (rows k width plant n : ℕ) (costs₀ witnesses�
   pub table : Table (List ℕ)
   pub whole : Full (openIn f) (start (openIn f)) (mustRows (networkOf f)) (keysOf path)
   pub planted : plantOf path ≡ plant
-  pub stands : Stands (networkOf f) n rows (rowsOf (keysOf path)) table
+  pub stands : Stands (networkOf f) (layoutsIn f) n rows (rowsOf (keysOf path)) table
   pub held : Held (costOf (networkOf f)) k width rows s costs witnesses table
   pub same-costs : length costs ≡ length costs₀
   pub same-witnesses : length witnesses ≡ length witnesses₀
@@ -117,7 +117,7 @@ module _ {f nb firsts seconds mustNb mustFirsts mustSeconds : List ℕ} {limit p
       here = rowsOf (keysOf path)
 
       abbrev table′ : Table (List ℕ)
-      table′ = enterBehind key rows (knownTrees (networkOf f) n) (turn .table) here
+      table′ = enterBehind key rows (knownTrees (networkOf f) (layoutsIn f) n) (turn .table) here
 
       size : length here ≡ width
       size = omega (arith, rowsOf-length (keysOf path), l .fitted .wide, completion-length g (rowNumbers g) (start g) (keysOf path) (wf .once) (sound-start g wf) (turn .whole .completes))
@@ -132,8 +132,8 @@ module _ {f nb firsts seconds mustNb mustFirsts mustSeconds : List ℕ} {limit p
           let after = offer ∙ ap (λ (p : List ℕ). offerOf known n costs witnesses rows s (key p) p) same in
           subst (λ (o : Offered). Held key k width rows (o .scratch) (o .costs) (o .witnesses) table′) (sym after)
           (offer-held key k width rows long (turn .held) (omega (arith, l .accepted .criteria-low, l .criteria)) (omega (arith, several f (l .accepted), l .fitted .wide))
-          (rw (turn .same-costs, ← add-one rows) (room .costs-fit)) (rw (turn .same-witnesses, ← add-one rows) (room .trees-fit)) here size known n (knownTrees (networkOf f) n) (rows-known .fits)
-          (rows-known .vectors ∙ sym (known-vectors (networkOf f) n)))
+          (rw (turn .same-costs, ← add-one rows) (room .costs-fit)) (rw (turn .same-witnesses, ← add-one rows) (room .trees-fit)) here size known n (knownTrees (networkOf f) (layoutsIn f) n) (rows-known .fits)
+          (rows-known .vectors ∙ sym (known-vectors (networkOf f) (layoutsIn f) n)))
 
       found-is : nextOf next ≡ afterIn (l .mustered) (l .fitted) (keysOf path) len
       found-is = found ∙ (rw (l .first-ends, l .second-ends, turn .planted, l .planted))
@@ -165,7 +165,7 @@ module _ {f nb firsts seconds mustNb mustFirsts mustSeconds : List ℕ} {limit p
       pub turn-last : rows ≡ scratchRows → next .some ≡ false → Passed f k width n s′ costs′ witnesses′
       turn-last e none-next =
           let over = subst (λ (x : List (List ℕ)). LastIn g x here) (sym same-list) (last-path (l .mustered) (l .fitted) (keysOf path) (turn .whole) len all (sym found-is ∙ (rw none-next))) in
-          let end = pass-ends (networkOf f) n rows (rows-known .few) (omega arith) table′ (stands-last (networkOf f) n rows part here (turn .table) (turn .stands) over) in
+          let end = pass-ends (networkOf f) (layoutsIn f) n rows (rows-known .few) (omega arith) table′ (stands-last (networkOf f) n rows part here (turn .table) (turn .stands) over) in
           let count = held-count held′ in
           record {
             few = omega (arith, held′ .few);

@@ -8,13 +8,12 @@ use lib.Dec.{leb}
 use lib.ListN.{drop, length, take}
 use Rattle.checks.specs.Checks.{Outcome, answered}
 use Rattle.lists.proofs.Members.{_∈_}
-use Rattle.costs.specs.Costs.{front}
+use Rattle.costs.specs.Costs.{front, frontTrees}
 use Rattle.costs.specs.Layouts.{mustRows}
 use Rattle.network_file.specs.File.{networkOf, sizesOf}
 use Rattle.network_file.proofs.Accepted.{Accepted}
 use Rattle.pages.specs.Pages.{flat, pieces}
 use Rattle.operations.specs.Operations.{Fronted, layoutsIn, openIn, over}
-use Rattle.passes.specs.Passes.{frontTrees}
 use Rattle.scratch.specs.declared.Scratch.{Scratch}
 use Rattle.grow.proofs.Musts.{Mustered}
 use Rattle.walk.proofs.Behind.{Fitted}
@@ -46,12 +45,12 @@ pub record Holding (rows k width : ℕ) (costs witnesses : List ℕ) : Type 0 wh
   pub costs-fit : rows * k ≤ length costs
   pub trees-fit : rows * width ≤ length witnesses
 
--- The rows behind the first n after a pass: the next of the front, each with its first tree. All, if no row was dropped; else some.
+-- The rows behind the first n after a pass: the next of the front, each with its witness. All, if no row was dropped; else some.
 pub record Passed (f : List ℕ) (k width n : ℕ) (s : Scratch) (costs witnesses : List ℕ) : Type 0 where
   pub few : s .count ≤ scratchRows
   pub within : n + s .count ≤ length (front (networkOf f))
   pub vectors : pieces k (s .count) costs ≡ take (s .count) (drop n (front (networkOf f)))
-  pub trees : pieces width (s .count) witnesses ≡ take (s .count) (drop n (frontTrees (networkOf f)))
+  pub trees : pieces width (s .count) witnesses ≡ take (s .count) (drop n (frontTrees (networkOf f) (layoutsIn f)))
   pub all : s .bounded ≡ false → n + s .count ≡ length (front (networkOf f))
   pub some-more : s .bounded ≡ true → 0 < s .count
 
@@ -59,4 +58,4 @@ pub record Passed (f : List ℕ) (k width n : ℕ) (s : Scratch) (costs witnesse
 pub record Filled (f : List ℕ) (capacity : ℕ) (costs witnesses : List ℕ) (r : Outcome Fronted) (costs′ witnesses′ : List ℕ) : Type 0 where
   pub answer : r ≡ answered (record { count = min (length (front (networkOf f))) capacity; whole = leb (length (front (networkOf f))) capacity })
   pub costs-are : costs′ ≡ over (flat (take capacity (front (networkOf f)))) costs
-  pub witnesses-are : witnesses′ ≡ over (flat (take capacity (frontTrees (networkOf f)))) witnesses
+  pub witnesses-are : witnesses′ ≡ over (flat (take capacity (frontTrees (networkOf f) (layoutsIn f)))) witnesses

@@ -1,4 +1,4 @@
-//! Front: the vectors of the network's trees that no such tree's vector dominates, ascending, each with a tree of that cost.
+//! Front: the vectors of the network's trees that no such tree's vector dominates, ascending, each with the first tree of the list that has it.
 //! Passes over the list: rows known to be final stand in the lent tables, candidates behind them in a scratch table of the function's own.
 ghost use mathlib.Core.Path.{_≡_};
 ghost use mathlib.Core.List.{[]};
@@ -10,7 +10,7 @@ ghost use Rattle.grow.specs.Grow.{freshAfter};
 ghost use Rattle.grow.specs.Musts.{growWith};
 ghost use Rattle.network_file.proofs.Accepted.{Accepted};
 ghost use Rattle.network_file.specs.File.{networkOf, sizesOf};
-ghost use Rattle.operations.specs.Operations.{Witnesses, frontCall};
+ghost use Rattle.operations.specs.Operations.{frontCall};
 ghost use Rattle.paths.specs.Path.{enteredBy, keysOf, plantOf, rowsIn};
 ghost use Rattle.network.specs.Answers.{openedOf};
 ghost use Rattle.scratch.specs.Scratch.{offerOf};
@@ -302,9 +302,9 @@ fn refused(opened: Opened) -> FrontAnswer
     }
 }
 
-/// Front: the first vectors of the front, as many as fit, each with a tree of that cost as its minimal path.
+/// Front: the first vectors of the front, as many as fit, each with the first tree of the list that has it.
 pub fn front(file: &[u8], costs: &mut [u32], witnesses: &mut [u16]) -> FrontAnswer
-    ensures { λ r. ⌜ (record { outcome = frontedOf r; buffers = now (costs .exit) } ≡ frontCall (now (file .entry)) (now (costs .entry)) (now (witnesses .entry))) × Witnesses (now (file .entry)) (now (costs .entry)) (now (witnesses .entry)) (now (witnesses .exit)) ⌝ }
+    ensures { λ r. ⌜ record { outcome = frontedOf r; buffers = record { costs = now (costs .exit); witnesses = now (witnesses .exit) } } ≡ frontCall (now (file .entry)) (now (costs .entry)) (now (witnesses .entry)) ⌝ }
 {
     let opened = listed::listed(file);
     let Opened::Header(header) = opened else {

@@ -94,3 +94,8 @@ sameRows p q = all (λ r. member r q) p && all (λ r. member r p) q
 -- The minimal path with exactly the rows of a drawn tree.
 abbrev pub pathOf : Graph → List ℕ → Option (List ℕ)
 pathOf g rs = first (sameRows rs) (trees g)
+
+-- the path that was found; asked only where there is one
+abbrev pub pathIn : Option (List ℕ) → List ℕ
+pathIn none = []
+pathIn (some path) = path

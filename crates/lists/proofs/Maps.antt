@@ -1,10 +1,12 @@
--- `map` goes through the functions of lists: what is done by a key of the entries is done on the keys.
-use mathlib.Core.Path.{_∙_, _≡_, ap, refl}
+-- `map` goes through the functions of lists: what is done by a key of the entries is done on the keys. Maps there and back (`map-back`).
+use mathlib.Core.Path.{_∙_, _≡_, ap, ap₂, refl}
 use mathlib.Core.Bool.{Bool, false, true}
-use mathlib.Core.List.{List, [], _∷_, map}
-use Prim.Native.Nat.{suc, zero, ℕ}
-use lib.ListN.{drop, take}
+use mathlib.Core.List.{List, [], _∷_, map, List·Memᴰ·head as here, List·Memᴰ·tail as there}
+use Prim.Native.Nat.{_<_, suc, zero, ℕ}
+use native.Mathlib.Omega.{arith}
+use lib.ListN.{drop, getD, length, take}
 use Rattle.lists.specs.Lists.{all, any, both, either, filterB, insert, keepIf, pick}
+use Rattle.lists.proofs.Members.{_∈_}
 
 module _ {A B : Type 0} (f : A → B) where
   pub map-take : (n : ℕ) (l : List A) → map f (take n l) ≡ take n (map f l)
@@ -16,6 +18,11 @@ module _ {A B : Type 0} (f : A → B) where
   map-drop zero l = refl
   map-drop (suc n) [] = refl
   map-drop (suc n) (a ∷ l) = map-drop n l
+
+  pub map-at : (l : List A) (i : ℕ) (d : A) (e : B) → i < length l → getD (map f l) i e ≡ f (getD l i d)
+  map-at [] i d e h = absurd (omega arith)
+  map-at (a ∷ l) zero d e h = refl
+  map-at (a ∷ l) (suc i) d e h = map-at l i d e (omega arith)
 
   pub map-any : (p : B → Bool) (l : List A) → any (λ a. p (f a)) l ≡ any p (map f l)
   unfolding any
@@ -46,3 +53,7 @@ module _ {A B : Type 0} (f : A → B) where
   map-insert less a (b ∷ l) =
       map-pick (less (f b) (f a)) (b ∷ insert (λ x y. less (f x) (f y)) a l) (a ∷ b ∷ l)
       ∙ ap (λ (k : List B). pick (less (f b) (f a)) (f b ∷ k) (f a ∷ f b ∷ map f l)) (map-insert less a l)
+
+  pub map-back : (h : B → A) (l : List B) → ((b : B) → b ∈ l → f (h b) ≡ b) → map f (map h l) ≡ l
+  map-back h [] e = refl
+  map-back h (b ∷ l) e = ap₂ (λ (x : B) (m : List B). x ∷ m) (e b (here refl)) (map-back h l (λ c m. e c (there m)))

@@ -110,13 +110,36 @@ module _ {A : Type 0} (p : A → Bool) where
       (λ (n : ¬ T (p a)). let (m, t) = first-out l (sym (first-there a l n) ∙ e) in (there m, t))
       (decide (p a))
 
+  -- a member that passes stands behind one that does not
+  pass-later : {a x : A} {l : List A} → ¬ T (p a) → x ∈ a ∷ l → T (p x) → x ∈ l
+  pass-later {a} {x} n m t = ⊎-elim (λ (e : x ≡ a). absurd (n (subst (λ (y : A). T (p y)) e t))) (λ i. i) (mem-cases m)
+
+  -- where one passes, one is found
+  pub first-in : (l : List A) {x : A} → x ∈ l → T (p x) → (y : A) × (first p l ≡ some y)
+  first-in [] m t = absurd (mem-nil m)
+  first-in (a ∷ l) m t = ⊎-elim
+      (λ (s : T (p a)). (a, first-here a l s))
+      (λ (n : ¬ T (p a)). let (y, e) = first-in l (pass-later n m t) t in (y, first-there a l n ∙ e))
+      (decide (p a))
+
+  -- what stands before the one that is found does not pass
+  pub first-stands : (l : List A) {x : A} → first p l ≡ some x
+      → (before : List A) × (behind : List A) × (l ≡ before ++ x ∷ behind) × ((y : A) → y ∈ before → ¬ T (p y))
+  unfolding first
+  first-stands [] {x} e = absurd (Option·none-ne-some x e)
+  first-stands (a ∷ l) {x} e = ⊎-elim
+      (λ (t : T (p a)). ([], l, ap (λ (y : A). y ∷ l) (Option·some-injective a x (sym (first-here a l t) ∙ e)), λ y m. absurd (mem-nil m)))
+      (λ (n : ¬ T (p a)).
+      let (before, behind, q, none-before) = first-stands l (sym (first-there a l n) ∙ e) in
+      (a ∷ before, behind, ap (λ (k : List A). a ∷ k) q, λ y m. mem-elim (λ (z : A). ¬ T (p z)) m n (none-before y)))
+      (decide (p a))
+
   -- the only member that passes is found
   pub first-only : (l : List A) (x : A) → x ∈ l → T (p x) → ((y : A) → y ∈ l → T (p y) → y ≡ x) → first p l ≡ some x
   first-only [] x m t only = absurd (mem-nil m)
   first-only (a ∷ l) x m t only = ⊎-elim
       (λ (s : T (p a)). first-here a l s ∙ ap {B = Option A} some (only a (here refl) s))
-      (λ (n : ¬ T (p a)). first-there a l n ∙ first-only l x (⊎-elim (λ (e : x ≡ a). absurd (n (subst (λ (y : A). T (p y)) e t))) (λ i. i) (mem-cases m))
-      t (λ y i. only y (there i)))
+      (λ (n : ¬ T (p a)). first-there a l n ∙ first-only l x (pass-later n m t) t (λ y i. only y (there i)))
       (decide (p a))
 
 -- Filtered lists

@@ -1,10 +1,15 @@
--- A buffer that is written over place by place (`over-next`).
-use mathlib.Core.Path.{_≡_, ap, refl}
+-- A buffer that is written over place by place (`over-next`), and rows read back from a table that they were written over (`over-rows`).
+use mathlib.Core.Path.{_∙_, _≡_, ap, refl, sym}
 use mathlib.Core.List.{List, [], _∷_}
-use Prim.Native.Nat.{_+_, _<_, suc, zero, ℕ}
+use Prim.Native.Nat.{_+_, _<_, _≤_, suc, zero, ℕ}
 use native.Mathlib.Numerals.{add-one}
 use native.Mathlib.Omega.{arith}
-use lib.ListN.{getD, length, set, take}
+use lib.ListN.{drop, getD, length, set, take}
+use lib.Seq.{length-take-le}
+use Rattle.lists.proofs.Members.{take-out}
+use Rattle.costs.proofs.Fronts.{Sized}
+use Rattle.pages.specs.Pages.{flat, pieces}
+use Rattle.pages.proofs.Pages.{pieces-flat}
 use Rattle.operations.specs.Operations.{over}
 
 over-suc : (places buffer : List ℕ) (i : ℕ) → i < length places → i < length buffer
@@ -18,3 +23,9 @@ over-suc (x ∷ places) (y ∷ buffer) (suc i) h k = ap (λ (l : List ℕ). x �
 pub over-next : (places buffer : List ℕ) (i : ℕ) → i < length places → i < length buffer
     → set (over (take i places) buffer) i (getD places i 0) ≡ over (take (i + 1) places) buffer
 over-next places buffer i h k = rw add-one (over-suc places buffer i h k)
+
+-- the first n of some rows of k places
+pub over-rows : (k n : ℕ) (rows : List (List ℕ)) (table : List ℕ) → Sized k rows → n ≤ length rows → pieces k n (over (flat (take n rows)) table) ≡ take n rows
+over-rows k n rows table sized few =
+    ap (λ (m : ℕ). pieces k m (over (flat (take n rows)) table)) (sym (length-take-le n rows few))
+    ∙ pieces-flat k (take n rows) (drop (length (flat (take n rows))) table) (λ v m. sized v (take-out n rows m))

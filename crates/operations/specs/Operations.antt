@@ -1,24 +1,21 @@
--- Document 01's operations but Open (crate network_file), with document 02's row states (#102): each gives, for every input, its outcome and
--- every lent buffer afterwards.
+-- Document 01's operations but Open (crate network_file), with document 02's row states (#102) and first witness (#101): each gives, for every
+-- input, its outcome and every lent buffer afterwards.
 -- Each has its whole table of checks, in document 01's order. A definition that says "asked only after check .." may answer
 -- anything before: the table stops at the first check that is not met.
 use mathlib.Core.Bool.{Bool, _&&_, false, true}
-use mathlib.Core.Option.{Option, none, some}
 use mathlib.Core.List.{List, [], _++_, _∷_, map}
-use Prim.Native.Nat.{_*_, _+_, _-_, _/_, _^_, min, ℕ}
+use Prim.Native.Nat.{_*_, _+_, _-_, _^_, min, ℕ}
 use lib.Dec.{eqb, leb, ltb}
 use lib.ListN.{drop, length, take}
 use Rattle.lists.specs.Lists.{all, filterB, pick, sum}
 use Rattle.graph.specs.Graph.{Graph, isTree, rowNumbers, runs, width}
-use Rattle.graph.specs.Paths.{isMinimal, pathOf}
-use Rattle.checks.specs.Checks.{Check, Ended, Outcome, answered, checked, ended, refused}
-use Rattle.costs.specs.Costs.{costOf, front}
+use Rattle.graph.specs.Paths.{isMinimal, pathIn, pathOf}
+use Rattle.checks.specs.Checks.{Check, Ended, Outcome, checked, ended}
+use Rattle.costs.specs.Costs.{costOf, frontTrees, frontVectors}
 use Rattle.costs.specs.Layouts.{keepsStates, layouts, openGraph}
 use Rattle.costs.specs.Network.{Network, graphOf}
 use Rattle.network_file.specs.File.{fileChecks, networkOf, sizesOf, within}
-use Rattle.pages.specs.Pages.{flat, moreAfter, pageAfter, pageCount, restAfter}
-use Rattle.lists.proofs.Members.{_∈_}
-use mathlib.Core.Path.{_≡_}
+use Rattle.pages.specs.Pages.{capacity, flat, moreAfter, pageAfter, pageCount, restAfter}
 
 abbrev pub graphIn : List ℕ → Graph
 graphIn f = graphOf (networkOf f)
@@ -68,14 +65,10 @@ treeChecks g rows =
 unfoldable pub drawnChecks : Network → List ℕ → List Check
 drawnChecks w rows = treeChecks (graphOf w) rows ++ (check 15 (keepsStates w rows) ∷ [])
 
--- asked only after check 10, where the rows have a path
-abbrev pub pathIn : Option (List ℕ) → List ℕ
-pathIn none = []
-pathIn (some path) = path
-
 unfoldable pub orderChecks : List ℕ → List ℕ → List ℕ → List Check
 orderChecks f rows buffer = fileChecks f ++ drawnChecks (networkOf f) rows ++ (check 11 (leb (width (graphIn f)) (length buffer)) ∷ [])
 
+-- the path is asked only after check 10, where the rows have one
 unfoldable pub orderCall : List ℕ → List ℕ → List ℕ → Ended (Unit {0}) (List ℕ)
 orderCall f rows buffer = ended (orderChecks f rows buffer) tt buffer (over (pathIn (pathOf (graphIn f) rows)) buffer)
 
@@ -124,9 +117,28 @@ pub record Fronted : Type 0 where
   -- the mark: 'whole' if true, else 'cut'
   pub whole : Bool
 
--- the whole rows that both tables hold; asked only after check 3, where neither width is 0
-unfoldable pub capacity : List ℕ → List ℕ → List ℕ → ℕ
-capacity f costs witnesses = min (length costs / sizesOf f .k) (length witnesses / width (graphIn f))
+-- the cost table and the witness table
+pub record FrontTables : Type 0 where
+  pub costs : List ℕ
+  pub witnesses : List ℕ
+
+-- the answer, and both tables afterwards
+pub record FrontEnd : Type 0 where
+  pub answer : Fronted
+  pub tables : FrontTables
+
+-- What Front comes to over some trees, of `places` rows each: the first vectors of their front, as many as fit, and beside each its witness.
+unfoldable pub frontOver : Network → ℕ → List (List ℕ) → FrontTables → FrontEnd
+frontOver w places trees lent =
+    let rows = capacity (length (w .kinds)) places (lent .costs) (lent .witnesses) in
+    let vectors = frontVectors w trees in
+    record {
+      answer = record { count = min (length vectors) rows; whole = leb (length vectors) rows };
+      tables = record {
+        costs = over (flat (take rows vectors)) (lent .costs);
+        witnesses = over (flat (take rows (frontTrees w trees))) (lent .witnesses);
+      };
+    }
 
 unfoldable pub frontChecks : List ℕ → List ℕ → List ℕ → List Check
 frontChecks f costs witnesses =
@@ -135,21 +147,8 @@ frontChecks f costs witnesses =
     ∷ check 11 (leb (sizesOf f .k) (length costs) && leb (width (graphIn f)) (length witnesses))
     ∷ [])
 
--- the outcome, and the cost table afterwards
-unfoldable pub frontCall : List ℕ → List ℕ → List ℕ → Ended Fronted (List ℕ)
+unfoldable pub frontCall : List ℕ → List ℕ → List ℕ → Ended Fronted FrontTables
 frontCall f costs witnesses =
-    let cap = capacity f costs witnesses in
-    let vectors = front (networkOf f) in
-    ended (frontChecks f costs witnesses) (record { count = min (length vectors) cap; whole = leb (length vectors) cap })
-    costs (over (flat (take cap vectors)) costs)
-
-abbrev pub rowsFilled : Outcome Fronted → ℕ
-rowsFilled (refused e) = 0
-rowsFilled (answered a) = a .count
-
--- The witness table afterwards, `after`: for each vector of the front that fits, a tree of the list with that vector.
-pub record Witnesses (f costs witnesses after : List ℕ) : Type 0 where
-  pub paths : List (List ℕ)
-  pub listed : (p : List ℕ) → p ∈ paths → p ∈ layoutsIn f
-  pub vectors : map (costOf (networkOf f)) paths ≡ take (rowsFilled (frontCall f costs witnesses .outcome)) (front (networkOf f))
-  pub table : after ≡ over (flat paths) witnesses
+    let lent : FrontTables = record { costs = costs; witnesses = witnesses } in
+    let end = frontOver (networkOf f) (width (graphIn f)) (layoutsIn f) lent in
+    ended (frontChecks f costs witnesses) (end .answer) lent (end .tables)

@@ -6,7 +6,8 @@ use Prim.Native.Nat.{_<_, _≤_, ℕ}
 use lib.ListN.{length, length-map, take}
 use borrow.Author.Tests.{le-leb, lt-leb}
 use Rattle.checks.specs.Checks.{answered, refused}
-use Rattle.operations.specs.Operations.{orderCall, orderChecks, over, pathIn}
+use Rattle.graph.specs.Paths.{pathIn}
+use Rattle.operations.specs.Operations.{orderCall, orderChecks, over}
 use Rattle.paths.specs.Path.{keysOf, rowsIn}
 use Rattle.drawn.specs.Answers.{drawnCall, drawnOf}
 use Rattle.drawn.specs.declared.DrawnAnswer.{DrawnAnswer}

@@ -93,3 +93,7 @@ run w L done (page ∷ pages) =
 -- how many trees the pages can hold, each by itself
 abbrev pub room : ℕ → List (List ℕ) → ℕ
 room w pages = sum (map (λ page. length page / w) pages)
+
+-- A cost table and a witness table: how many whole rows both hold, of k costs and of w row numbers; asked only where neither is 0.
+unfoldable pub capacity : ℕ → ℕ → List ℕ → List ℕ → ℕ
+capacity k w costs witnesses = min (length costs / k) (length witnesses / w)

@@ -1,5 +1,5 @@
 pub mod Behind
 pub mod Flat
-pub mod FrontTrees
+pub mod KnownTrees
 pub mod Passes
 pub mod Places

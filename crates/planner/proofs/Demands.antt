@@ -3,38 +3,42 @@ use mathlib.Core.Path.{_∙_, _≡_, ap, refl, subst, sym}
 use mathlib.Core.Logic.{_↔_}
 use mathlib.Core.List.{List, [], _++_, _∷_, map, List·Memᴰ·not-nil as mem-nil}
 use mathlib.Core.Option.{none}
-use Prim.Native.Nat.{_≤_, min, suc, zero, ℕ}
+use Prim.Native.Nat.{_<_, _≤_, min, ℕ}
 use native.Mathlib.Omega.{arith}
-use lib.ListN.{drop, length, length-map, length-take, take}
+use lib.ListN.{getD, length, length-take, take}
+use lib.Seq.{getD-take, take-length, take-take}
 use lib.Dec.{T, leb, leb→le, le→leb}
 use Rattle.lists.specs.Lists.{both}
 use Rattle.lists.proofs.Distinct.{Distinct}
+use Rattle.lists.proofs.Ascending.{getD-mem}
+use Rattle.lists.proofs.Maps.{map-at}
 use Rattle.lists.proofs.Members.{_∈_, _⊆_, take-out}
 use Rattle.lists.proofs.Orders.{Ascending, ascending-distinct}
 use Rattle.lists.proofs.Tests.{T-both, T-true}
 use Rattle.graph.specs.Graph.{Graph, isTree, width}
-use Rattle.graph.specs.Paths.{isMinimal, pathOf}
+use Rattle.graph.specs.Paths.{isMinimal, pathIn, pathOf}
 use Rattle.graph.proofs.PathOf.{pathOf-tree}
 use Rattle.graph.proofs.Parts.{part-distinct, part-length}
 use Rattle.graph.proofs.Tree.{minimal-tree, minimal-unique, tree-out}
-use Rattle.checks.specs.Checks.{Check, Ended, Outcome, answered, checked, ended, firstUnmet, refused}
+use Rattle.checks.specs.Checks.{Check, Ended, answered, checked, ended, firstUnmet, refused}
 use Rattle.checks.proofs.Checks.{StopsAt, firstUnmet-append, firstUnmet-met, met-all, stops-iff}
 use Rattle.checks.proofs.Ended.{checked-met, checked-refused, checked-unmet, ended-met, ended-refused, ended-unmet}
-use Rattle.costs.specs.Costs.{costOf, front, vectorLess, vectors}
+use Rattle.costs.specs.Costs.{costOf, front, frontTrees, treeWith, vectorLess, vectors}
 use Rattle.costs.specs.Layouts.{keepsStates, mustRows}
 use Rattle.costs.specs.Network.{Network}
 use Rattle.costs.proofs.Layouts.{keeps-same, layouts-mem, layouts-part}
+use Rattle.costs.proofs.FrontTrees.{front-listed, front-trees-length, witness-first, witness-out}
 use Rattle.costs.proofs.Fronts.{Undominated, front-ascending, front-members}
 use Rattle.costs.proofs.Networks.{vectors-sized}
 use Rattle.costs.proofs.Vectors.{vector-order}
 use Rattle.forests.proofs.Forest.{Forest}
 use Rattle.network_file.specs.File.{fileChecks, networkOf, openOf, sizesOf}
 use Rattle.network_file.proofs.Accepted.{Accepted, accepted}
-use Rattle.operations.specs.Operations.{Fronted, Reached, Witnesses, capacity, check, costCall, costChecks, drawnChecks, frontCall, frontChecks, graphIn, layoutsIn, orderCall, orderChecks, over, pageCall, pageChecks, pathIn, reachCall, rowsFilled, someTree, startChecks, treeChecks}
-use Rattle.pages.specs.Pages.{flat, pieces}
-use Rattle.pages.proofs.Pages.{pieces-flat}
+use Rattle.operations.specs.Operations.{FrontTables, Fronted, Reached, check, costCall, costChecks, drawnChecks, frontCall, frontChecks, frontOver, graphIn, layoutsIn, orderCall, orderChecks, over, pageCall, pageChecks, reachCall, someTree, startChecks, treeChecks}
+use Rattle.pages.specs.Pages.{capacity, flat, pieces}
 use Rattle.operations.proofs.Exists.{size-listed}
 use Rattle.operations.proofs.Files.{formed}
+use Rattle.operations.proofs.Over.{over-rows}
 use Rattle.operations.proofs.Runs.{Claim, claim}
 use Rattle.operations.proofs.Costs.{cost-same}
 
@@ -65,8 +69,7 @@ pub record Demand1 (f rows buffer page start costs witnesses : List ℕ) : Type 
   pub orders : Refuses (orderChecks f rows buffer) (orderCall f rows buffer) buffer
   pub prices : Refuses (costChecks f rows buffer) (costCall f rows buffer) buffer
   pub pages : Refuses (pageChecks f page start) (pageCall f page start) page
-  pub fronts : Refuses (frontChecks f costs witnesses) (frontCall f costs witnesses) costs
-  pub witnessed : (after : List ℕ) (e : ℕ) → Witnesses f costs witnesses after → frontCall f costs witnesses .outcome ≡ refused e → after ≡ witnesses
+  pub fronts : Refuses (frontChecks f costs witnesses) (frontCall f costs witnesses) (record { costs = costs; witnesses = witnesses })
   -- document 01's order, with 14 and 15 of document 02
   pub file-order : numbers (fileChecks f) ≡ fileNumbers
   pub order-order : numbers (orderChecks f rows buffer) ≡ fileNumbers ++ (8 ∷ 9 ∷ 10 ∷ 15 ∷ 11 ∷ [])
@@ -88,15 +91,6 @@ unfolding startChecks drawnChecks treeChecks
 start-order w [] = refl
 start-order w (r ∷ rs) = refl
 
--- no row is filled after a refusal
-none-filled : (f costs witnesses after : List ℕ) (e : ℕ) → Witnesses f costs witnesses after → frontCall f costs witnesses .outcome ≡ refused e → after ≡ witnesses
-unfolding flat
-none-filled f costs witnesses after e w h = go (w .paths) (w .vectors ∙ ap (λ (o : Outcome Fronted). take (rowsFilled o) (front (networkOf f))) h) (w .table)
-  where
-    go : (paths : List (List ℕ)) → map (costOf (networkOf f)) paths ≡ take 0 (front (networkOf f)) → after ≡ over (flat paths) witnesses → after ≡ witnesses
-    go [] m t = t
-    go (p ∷ paths) m t = let z : _≡_ {A = ℕ} 0 1 = cc in absurd (omega arith)
-
 pub demand-1 : (f rows buffer page start costs witnesses : List ℕ) → Demand1 f rows buffer page start costs witnesses
 unfolding openOf reachCall orderCall costCall pageCall frontCall fileChecks orderChecks costChecks pageChecks frontChecks drawnChecks treeChecks
 demand-1 f rows buffer page start costs witnesses = record {
@@ -105,8 +99,7 @@ demand-1 f rows buffer page start costs witnesses = record {
   orders = refuses-ended (orderChecks f rows buffer) _ buffer _;
   prices = refuses-ended (costChecks f rows buffer) _ buffer _;
   pages = refuses-ended (pageChecks f page start) _ page _;
-  fronts = refuses-ended (frontChecks f costs witnesses) _ costs _;
-  witnessed = none-filled f costs witnesses;
+  fronts = refuses-ended (frontChecks f costs witnesses) _ (record { costs = costs; witnesses = witnesses }) _;
   file-order = refl;
   order-order = refl;
   cost-order = refl;
@@ -188,18 +181,26 @@ pub record FrontIs (f : List ℕ) : Type 0 where
   pub ascending : Ascending vectorLess (front (networkOf f))
   pub once : Distinct (front (networkOf f))
 
--- Front, with tables that have room for a row: the first vectors of the front, as many as fit, each with a tree of that vector; the rest of
--- the tables as it was; and the mark says truly whether that is all.
+-- p is the first tree of the list that has the vector v: none that stands before it has v.
+pub record FirstTree (f v p : List ℕ) : Type 0 where
+  pub before : List (List ℕ)
+  pub behind : List (List ℕ)
+  pub stands : layoutsIn f ≡ before ++ p ∷ behind
+  pub priced : costOf (networkOf f) p ≡ v
+  pub none-before : (q : List ℕ) → q ∈ before → ¬ (costOf (networkOf f) q ≡ v)
+
+-- Front, with tables that have room for a row: the first vectors of the front, as many as fit, and beside each the first tree of the list that has
+-- it; and the mark says truly whether that is all.
 pub record FrontClaim (f costs witnesses : List ℕ) : Type 0 where
   pub answer : Fronted
   pub answers : frontCall f costs witnesses .outcome ≡ answered answer
-  pub count : answer .count ≡ min (length (front (networkOf f))) (capacity f costs witnesses)
-  pub whole : T (answer .whole) ↔ (length (front (networkOf f)) ≤ capacity f costs witnesses)
-  pub rows : pieces (sizesOf f .k) (answer .count) (frontCall f costs witnesses .buffers) ≡ take (answer .count) (front (networkOf f))
-  pub trees-are : (after : List ℕ) → Witnesses f costs witnesses after
-      → map (costOf (networkOf f)) (pieces (width (graphIn f)) (answer .count) after) ≡ take (answer .count) (front (networkOf f))
-  pub listed : (after : List ℕ) → Witnesses f costs witnesses after
-      → (p : List ℕ) → p ∈ pieces (width (graphIn f)) (answer .count) after → p ∈ layoutsIn f
+  pub count : answer .count ≡ min (length (front (networkOf f))) (capacity (sizesOf f .k) (width (graphIn f)) costs witnesses)
+  pub whole : T (answer .whole) ↔ (length (front (networkOf f)) ≤ capacity (sizesOf f .k) (width (graphIn f)) costs witnesses)
+  pub vectors-are : pieces (sizesOf f .k) (answer .count) (frontCall f costs witnesses .buffers .costs) ≡ take (answer .count) (front (networkOf f))
+  -- row by row
+  pub trees-are : (i : ℕ) → i < answer .count
+      → FirstTree f (getD (pieces (sizesOf f .k) (answer .count) (frontCall f costs witnesses .buffers .costs)) i [])
+      (getD (pieces (width (graphIn f)) (answer .count) (frontCall f costs witnesses .buffers .witnesses)) i [])
 
 -- The run of pages, for every list of calls, and the front beside it.
 pub record Demand3 (f : List ℕ) : Type 0 where
@@ -207,10 +208,11 @@ pub record Demand3 (f : List ℕ) : Type 0 where
   pub is-front : FrontIs f
   pub fronts : (costs witnesses : List ℕ) → sizesOf f .k ≤ length costs → width (graphIn f) ≤ length witnesses → FrontClaim f costs witnesses
 
-take-own : {A : Type 0} (n : ℕ) (l : List A) → take (length (take n l)) l ≡ take n l
-take-own zero l = refl
-take-own (suc n) [] = refl
-take-own (suc n) (x ∷ l) = ap (λ (m : List _). x ∷ m) (take-own n l)
+-- as many as there are, where more would fit
+take-least : (n : ℕ) (l : List (List ℕ)) → take (min (length l) n) l ≡ take n l
+take-least n l =
+    let e : length (take n l) ≡ min (length l) n = length-take n l ∙ omega arith in
+    ap (λ (m : ℕ). take m l) (sym e) ∙ sym (take-take (length (take n l)) n l (omega arith)) ∙ take-length (take n l)
 
 module _ (f : List ℕ) (ok : firstUnmet (fileChecks f) ≡ none) (tree : T (someTree (layoutsIn f))) where
   abbrev w : Network
@@ -221,11 +223,21 @@ module _ (f : List ℕ) (ok : firstUnmet (fileChecks f) ≡ none) (tree : T (som
   front-sized v m = vectors-sized w (layoutsIn f) v (front-members v (vectors w) .0 m .0) ∙ a f ok .kinds
 
   module _ (costs witnesses : List ℕ) (wide : sizesOf f .k ≤ length costs) (long : width (graphIn f) ≤ length witnesses) where
-    abbrev cap : ℕ
-    cap = capacity f costs witnesses
+    -- the vectors of the front, and the trees beside them
+    abbrev F : List (List ℕ)
+    F = front w
 
-    abbrev fronted : Fronted
-    fronted = record { count = min (length (front w)) cap; whole = leb (length (front w)) cap }
+    abbrev W : List (List ℕ)
+    W = frontTrees w (layoutsIn f)
+
+    as-many : length W ≡ length F
+    as-many = front-trees-length w (layoutsIn f)
+
+    abbrev cap : ℕ
+    cap = capacity (sizesOf f .k) (width (graphIn f)) costs witnesses
+
+    abbrev count : ℕ
+    count = min (length F) cap
 
     met : firstUnmet (frontChecks f costs witnesses) ≡ none
     unfolding frontChecks
@@ -236,48 +248,54 @@ module _ (f : List ℕ) (ok : firstUnmet (fileChecks f) ≡ none) (tree : T (som
         (T-true _ .0 (T-both (leb (sizesOf f .k) (length costs)) (leb (width (graphIn f)) (length witnesses)) .1 (le→leb _ _ wide, le→leb _ _ long)))
         ∙ met-all [] .1 (λ c m. absurd (mem-nil m))
 
-    ends : frontCall f costs witnesses ≡ record { outcome = answered fronted; buffers = over (flat (take cap (front w))) costs }
-    unfolding frontCall
-    ends = ended-met (frontChecks f costs witnesses) fronted costs (over (flat (take cap (front w))) costs) met
+    abbrev fronted : Fronted
+    fronted = record { count = count; whole = leb (length F) cap }
 
-    abbrev fits : List (List ℕ)
-    fits = take cap (front w)
+    -- both tables afterwards
+    abbrev after : FrontTables
+    after = record { costs = over (flat (take count F)) costs; witnesses = over (flat (take count W)) witnesses }
 
-    -- as many as the count says
-    fits-count : length fits ≡ fronted .count
-    fits-count = length-take cap (front w) ∙ omega arith
+    ends : frontCall f costs witnesses ≡ record { outcome = answered fronted; buffers = after }
+    unfolding frontCall frontOver
+    ends =
+        ended-met (frontChecks f costs witnesses) _ (record { costs = costs; witnesses = witnesses }) _ met
+        ∙ (rw (a f ok .kinds, take-least cap F, ← as-many, take-least cap W))
 
-    fits-are : fits ≡ take (fronted .count) (front w)
-    fits-are = sym (take-own cap (front w)) ∙ ap (λ (n : ℕ). take n (front w)) fits-count
+    trees-sized : (p : List ℕ) → p ∈ W → length p ≡ width (graphIn f)
+    trees-sized p m = part-length (layouts-part w) p (front-listed w (layoutsIn f) p m)
 
-    vectors-read : pieces (sizesOf f .k) (fronted .count) (over (flat fits) costs) ≡ take (fronted .count) (front w)
-    vectors-read =
-        ap (λ (n : ℕ). pieces (sizesOf f .k) n (over (flat fits) costs)) (sym fits-count)
-        ∙ pieces-flat (sizesOf f .k) fits (drop (length (flat fits)) costs) (λ v m. front-sized v (take-out cap (front w) m)) ∙ fits-are
+    vectors-read : pieces (sizesOf f .k) count (after .costs) ≡ take count F
+    vectors-read = over-rows (sizesOf f .k) count F costs front-sized (omega arith)
 
-    -- the witnesses' paths are read back from their table
-    module _ (after : List ℕ) (h : Witnesses f costs witnesses after) where
-      filled : map (costOf w) (h .paths) ≡ take (fronted .count) (front w)
-      filled = h .vectors ∙ ap (λ (e : Ended Fronted (List ℕ)). take (rowsFilled (e .outcome)) (front w)) ends
+    trees-read : pieces (width (graphIn f)) count (after .witnesses) ≡ take count W
+    trees-read = over-rows (width (graphIn f)) count W witnesses trees-sized (omega (arith, as-many))
 
-      paths-count : length (h .paths) ≡ fronted .count
-      paths-count = sym (length-map (h .paths) (costOf w)) ∙ ap length (filled ∙ sym fits-are) ∙ fits-count
+    module _ (i : ℕ) (h : i < count) where
+      abbrev v : List ℕ
+      v = getD F i []
 
-      paths-read : pieces (width (graphIn f)) (fronted .count) after ≡ h .paths
-      paths-read =
-          ap (λ (n : ℕ). pieces (width (graphIn f)) n after) (sym paths-count)
-          ∙ ap (pieces (width (graphIn f)) (length (h .paths))) (h .table)
-          ∙ pieces-flat (width (graphIn f)) (h .paths) (drop (length (flat (h .paths))) witnesses) (λ p m. part-length (layouts-part (networkOf f)) p (h .listed p m))
+      -- row i of both tables
+      vector-at : getD (pieces (sizesOf f .k) count (after .costs)) i [] ≡ v
+      vector-at = ap (λ (l : List (List ℕ)). getD l i []) vectors-read ∙ getD-take count F i [] h
+
+      tree-at : getD (pieces (width (graphIn f)) count (after .witnesses)) i [] ≡ treeWith w (layoutsIn f) v
+      unfolding frontTrees
+      tree-at = ap (λ (l : List (List ℕ)). getD l i []) trees-read ∙ getD-take count W i [] h ∙ map-at (treeWith w (layoutsIn f)) F i [] [] (omega arith)
+
+      first-tree : FirstTree f v (treeWith w (layoutsIn f) v)
+      first-tree =
+          let m : v ∈ vectors w = front-members v (vectors w) .0 (getD-mem F i [] (omega arith)) .0 in
+          let (before, behind, stands, none-before) = witness-first w (layoutsIn f) v m in
+          record { before = before; behind = behind; stands = stands; priced = witness-out w (layoutsIn f) v m .1; none-before = none-before }
 
     front-claim : FrontClaim f costs witnesses
     front-claim = record {
       answer = fronted;
-      answers = ap (λ (e : Ended Fronted (List ℕ)). e .outcome) ends;
+      answers = ap (λ (e : Ended Fronted FrontTables). e .outcome) ends;
       count = refl;
-      whole = (leb→le (length (front w)) cap, le→leb (length (front w)) cap);
-      rows = ap (λ (e : Ended Fronted (List ℕ)). pieces (sizesOf f .k) (fronted .count) (e .buffers)) ends ∙ vectors-read;
-      trees-are = λ after h. ap (map (costOf w)) (paths-read after h) ∙ filled after h;
-      listed = λ after h p m. h .listed p (subst (λ (l : List (List ℕ)). p ∈ l) (paths-read after h) m);
+      whole = (leb→le (length F) cap, le→leb (length F) cap);
+      vectors-are = rw ends vectors-read;
+      trees-are = λ i h. rw (ends, vector-at i h, tree-at i h) (first-tree i h);
     }
 
   pub demand-3 : Demand3 f

@@ -88,16 +88,16 @@ module _ {A B : Type 0} (e : Ended A B) (outcome : Outcome A) (after : B) (ends 
   unfolding ending
   ending-answered a told = rw (← ends) (simp told)
 
-module _ {A : Type 0} (values : A → List ℕ) (e : Ended A (List ℕ)) (table answer : List ℕ) where
-  pub beside-short : (places : ℕ) → length answer < places → record { code = 255; buffers = record { table = table; answer = answer } } ≡ answeringBeside places values e table answer
+module _ {A B : Type 0} (values : A → List ℕ) (e : Ended A B) (lent : B) (answer : List ℕ) where
+  pub beside-short : (places : ℕ) → length answer < places → record { code = 255; buffers = record { lent = lent; answer = answer } } ≡ answeringBeside places values e lent answer
   unfolding answeringBeside
   beside-short places few = simp (lt-ltb _ _ few)
 
-  module _ (outcome : Outcome A) (after : List ℕ) (ends : record { outcome = outcome; buffers = after } ≡ e) where
-    pub beside-refused : (places number : ℕ) → places ≤ length answer → outcome ≡ refused number → record { code = number; buffers = record { table = after; answer = answer } } ≡ answeringBeside places values e table answer
+  module _ (outcome : Outcome A) (after : B) (ends : record { outcome = outcome; buffers = after } ≡ e) where
+    pub beside-refused : (places number : ℕ) → places ≤ length answer → outcome ≡ refused number → record { code = number; buffers = record { lent = after; answer = answer } } ≡ answeringBeside places values e lent answer
     unfolding answeringBeside
     beside-refused places number enough told = rw (← ends) (simp (le-ltb _ _ enough, told))
 
-    pub beside-two : (a : A) (x y : ℕ) → 2 ≤ length answer → outcome ≡ answered a → values a ≡ x ∷ y ∷ [] → record { code = 0; buffers = record { table = after; answer = set (set answer 0 x) 1 y } } ≡ answeringBeside 2 values e table answer
+    pub beside-two : (a : A) (x y : ℕ) → 2 ≤ length answer → outcome ≡ answered a → values a ≡ x ∷ y ∷ [] → record { code = 0; buffers = record { lent = after; answer = set (set answer 0 x) 1 y } } ≡ answeringBeside 2 values e lent answer
     unfolding answeringBeside
     beside-two a x y enough told same = rw (← ends) (simp (le-ltb _ _ enough, told, same, over-two answer x y enough))

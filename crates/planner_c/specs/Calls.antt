@@ -2,15 +2,14 @@
 -- But for Pick the number is a code: 255 where the answer buffer is too short, before any check; else the number of the
 -- refusal, with every buffer as it was; else 0, with the answer's values in the first places.
 use mathlib.Core.Bool.{Bool, false, true}
-use mathlib.Core.Path.{_≡_}
 use mathlib.Core.List.{List, [], _∷_}
-use Prim.Native.Nat.{_<_, _≤_, min, ℕ}
+use Prim.Native.Nat.{min, ℕ}
 use lib.Dec.{ltb}
 use lib.ListN.{length, take}
 use Rattle.lists.specs.Lists.{pick}
 use Rattle.checks.specs.Checks.{Ended, Outcome, answered, refused}
 use Rattle.network_file.specs.File.{Sizes, openOf}
-use Rattle.operations.specs.Operations.{Fronted, Paged, Reached, Witnesses, costCall, frontCall, orderCall, over, pageCall, pickCall, reachCall}
+use Rattle.operations.specs.Operations.{FrontTables, Fronted, Paged, Reached, costCall, frontCall, orderCall, over, pageCall, pickCall, reachCall}
 
 pub record Called (B : Type 0) : Type 0 where
   pub code : ℕ
@@ -38,16 +37,16 @@ answering places values outcome answer =
 unfoldable pub ending : {A B : Type 0} → Ended A B → Called B
 ending e = record { code = codeOf (e .outcome); buffers = e .buffers }
 
--- what two buffers hold
-pub record Both : Type 0 where
-  pub table : List ℕ
+-- what the lent buffers hold, and the answer buffer
+pub record Beside (B : Type 0) : Type 0 where
+  pub lent : B
   pub answer : List ℕ
 
--- a call that is lent a buffer, and an answer buffer
-unfoldable pub answeringBeside : {A : Type 0} → ℕ → (A → List ℕ) → Ended A (List ℕ) → List ℕ → List ℕ → Called Both
-answeringBeside places values e table answer =
-    withPlaces places answer (record { table = table; answer = answer })
-    (record { code = codeOf (e .outcome); buffers = record { table = e .buffers; answer = answerAfter values (e .outcome) answer } })
+-- a call that is lent buffers, and an answer buffer
+unfoldable pub answeringBeside : {A B : Type 0} → ℕ → (A → List ℕ) → Ended A B → B → List ℕ → Called (Beside B)
+answeringBeside places values e lent answer =
+    withPlaces places answer (record { lent = lent; answer = answer })
+    (record { code = codeOf (e .outcome); buffers = record { lent = e .buffers; answer = answerAfter values (e .outcome) answer } })
 
 -- a count in a place of 32 bits: it holds at the greatest number there is
 abbrev pub held : ℕ → ℕ
@@ -92,14 +91,10 @@ plannerPick n page t out =
     record { code = length part; buffers = over (take (length out) part) out }
 
 -- Page: the count, and the mark, 1 for 'more'.
-unfoldable pub plannerPage : List ℕ → List ℕ → List ℕ → List ℕ → Called Both
+unfoldable pub plannerPage : List ℕ → List ℕ → List ℕ → List ℕ → Called (Beside (List ℕ))
 plannerPage file page start answer = answeringBeside 2 pagedValues (pageCall file page start) page answer
 
--- Front, but for the witness table: the count, and the mark, 1 for 'whole'.
-unfoldable pub plannerFront : List ℕ → List ℕ → List ℕ → List ℕ → Called Both
-plannerFront file costs witnesses answer = answeringBeside 2 frontedValues (frontCall file costs witnesses) costs answer
-
--- Front's witness table afterwards, `after`
-pub record FrontWitnesses (file costs witnesses answer after : List ℕ) : Type 0 where
-  pub short : length answer < 2 → after ≡ witnesses
-  pub listed : 2 ≤ length answer → Witnesses file costs witnesses after
+-- Front: the count, and the mark, 1 for 'whole'.
+unfoldable pub plannerFront : List ℕ → List ℕ → List ℕ → List ℕ → Called (Beside FrontTables)
+plannerFront file costs witnesses answer =
+    answeringBeside 2 frontedValues (frontCall file costs witnesses) (record { costs = costs; witnesses = witnesses }) answer

@@ -9,7 +9,7 @@ use reach::ReachAnswer;
 ghost use mathlib.Core.Path.{_≡_};
 ghost use lib.ListN.{length, take};
 ghost use Rattle.operations.specs.Operations.{over};
-ghost use Rattle.planner_c.specs.Calls.{FrontWitnesses, digit, held, plannerCost, plannerFront, plannerOpen, plannerOrder, plannerPage, plannerPick, plannerReach};
+ghost use Rattle.planner_c.specs.Calls.{digit, held, plannerCost, plannerFront, plannerOpen, plannerOrder, plannerPage, plannerPick, plannerReach};
 
 /// Open: 0 with n, m and k in the first three places of the answer; the refusal's number; or 255 where the answer has
 /// under three places.
@@ -127,7 +127,7 @@ pub extern "C" fn planner_page(
     start: &[u16],
     answer: &mut [u32],
 ) -> u32
-    ensures { λ r. ⌜ record { code = r; buffers = record { table = now (page .exit); answer = now (answer .exit) } } ≡ plannerPage (now (file .entry)) (now (page .entry)) (now (start .entry)) (now (answer .entry)) ⌝ }
+    ensures { λ r. ⌜ record { code = r; buffers = record { lent = now (page .exit); answer = now (answer .exit) } } ≡ plannerPage (now (file .entry)) (now (page .entry)) (now (start .entry)) (now (answer .entry)) ⌝ }
 {
     if answer.len() < 2 {
         return 255;
@@ -144,7 +144,7 @@ pub extern "C" fn planner_page(
 }
 
 /// Front: 0 with the count and the mark, 1 for 'whole', in the first two places of the answer; the refusal's number; or
-/// 255 where the answer has under two places.
+/// 255 where the answer has under two places. The tree beside a vector is the first of the list that has it.
 #[no_mangle]
 pub extern "C" fn planner_front(
     file: &[u8],
@@ -152,7 +152,7 @@ pub extern "C" fn planner_front(
     witnesses: &mut [u16],
     answer: &mut [u32],
 ) -> u32
-    ensures { λ r. ⌜ (record { code = r; buffers = record { table = now (costs .exit); answer = now (answer .exit) } } ≡ plannerFront (now (file .entry)) (now (costs .entry)) (now (witnesses .entry)) (now (answer .entry))) × FrontWitnesses (now (file .entry)) (now (costs .entry)) (now (witnesses .entry)) (now (answer .entry)) (now (witnesses .exit)) ⌝ }
+    ensures { λ r. ⌜ record { code = r; buffers = record { lent = record { costs = now (costs .exit); witnesses = now (witnesses .exit) }; answer = now (answer .exit) } } ≡ plannerFront (now (file .entry)) (now (costs .entry)) (now (witnesses .entry)) (now (answer .entry)) ⌝ }
 {
     if answer.len() < 2 {
         return 255;

@@ -16,11 +16,11 @@ use Rattle.lists.proofs.Members.{filter-out, take-out}
 use Rattle.lists.proofs.Orders.{insert-out}
 use Rattle.costs.specs.Costs.{dominates, vectorLess}
 use Rattle.costs.proofs.Fronts.{Sized}
-use Rattle.pages.specs.Pages.{flat, pieces}
+use Rattle.pages.specs.Pages.{capacity, flat, pieces}
 use Rattle.pages.proofs.Pages.{pieces-flat}
 use Rattle.tables.specs.Tables.{Table, below, bounded, cutAt, met, replaced}
 use Rattle.tables.proofs.Pass.{replaced-length}
-use Rattle.table.specs.Enter.{Row, beside, enterCall, filled, room}
+use Rattle.table.specs.Enter.{Row, beside, enterCall, filled}
 use Rattle.table.specs.Enter as entry
 use Rattle.table.proofs.Filled.{filled-length, paths-are, vectors-are}
 use Rattle.passes.specs.Passes.{enterBehind}
@@ -162,8 +162,8 @@ module _ (key : List ℕ → List ℕ) (k w rows : ℕ) (long : (p : List ℕ) �
         pieces-long w (s .count) witnesses fits p (rw (held-trees held) i))
         (insert-out (λ a b. vectorLess (key a) (key b)) (filterB (λ r. not (dominates (key e) (key r))) (t .rows)) m)
 
-    room-is : suc rows ≤ room k w costs witnesses
-    unfolding room
+    room-is : suc rows ≤ capacity k w costs witnesses
+    unfolding capacity
     room-is =
         let a = le-div-iff-mul-le {k = k} {x = suc rows} {y = length costs} some-costs .1 costs-fit in
         let b = le-div-iff-mul-le {k = w} {x = suc rows} {y = length witnesses} some-rows .1 trees-fit in
@@ -178,8 +178,8 @@ module _ (key : List ℕ → List ℕ) (k w rows : ℕ) (long : (p : List ℕ) �
     enter-is : enterCall costs witnesses (s .count) (key e) e ≡ entering (met key (t .rows) e)
     unfolding enterCall
     enter-is =
-        let fewer : s .count ≤ room k w costs witnesses = omega (arith, held .few, room-is) in
-        let fits : length new ≤ room k w costs witnesses = omega (arith, held .few, room-is, replaced-length key (t .rows) e, held-count held) in
+        let fewer : s .count ≤ capacity k w costs witnesses = omega (arith, held .few, room-is) in
+        let fits : length new ≤ capacity k w costs witnesses = omega (arith, held .few, room-is, replaced-length key (t .rows) e, held-count held) in
         rw (
           long e,
           size,

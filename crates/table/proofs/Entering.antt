@@ -14,8 +14,9 @@ use Rattle.lists.proofs.Orders.{insert-length, insert-out}
 use Rattle.lists.proofs.Tests.{pick-elim}
 use Rattle.lists.proofs.Maps.{map-any}
 use Rattle.costs.specs.Costs.{dominates, noneLarger, vectorLess}
+use Rattle.pages.specs.Pages.{capacity}
 use Rattle.tables.specs.Tables.{replaced}
-use Rattle.table.specs.Enter.{Row, costsOver, enterCall, entered, filled, full, met, room, unfit, witnessesOver}
+use Rattle.table.specs.Enter.{Row, costsOver, enterCall, entered, filled, full, met, unfit, witnessesOver}
 use Rattle.table.specs.Parts.{Closed, before, inserted, metIn, placeIn, staying}
 use Rattle.table.proofs.Closing.{Bounds}
 use Rattle.table.proofs.Filled.{Wide, filled-length, filled-over, over, over-insert, over-long, over-read, over-whole, pathOf, paths-are, vectorOf, vectors-are, wide-staying}
@@ -70,7 +71,7 @@ module _ (c p : List ℕ) (count : ℕ) (v q : List ℕ) where
   unfolding enterCall
   unfit-path n e = simp (ne-eqb _ _ n, eq-eqb _ _ e)
 
-  pub unfit-count : ¬ (length v ≡ 0) → ¬ (length q ≡ 0) → room (length v) (length q) c p < count
+  pub unfit-count : ¬ (length v ≡ 0) → ¬ (length q ≡ 0) → capacity (length v) (length q) c p < count
       → record { answer = unfit; costs = c; witnesses = p } ≡ enterCall c p count v q
   unfolding enterCall
   unfit-count n n′ h = simp (ne-eqb _ _ n, ne-eqb _ _ n′, lt-ltb _ _ h)
@@ -79,7 +80,7 @@ module _ (c p : List ℕ) (count : ℕ) (v q : List ℕ) where
 pub record Fit (c p : List ℕ) (count : ℕ) (v q : List ℕ) : Type 0 where
   pub some-costs : ¬ (length v ≡ 0)
   pub some-rows : ¬ (length q ≡ 0)
-  pub enough : count ≤ room (length v) (length q) c p
+  pub enough : count ≤ capacity (length v) (length q) c p
 
 module _ {c p : List ℕ} {count : ℕ} {v q : List ℕ} (fit : Fit c p count v q) where
   abbrev k : ℕ
@@ -97,12 +98,12 @@ module _ {c p : List ℕ} {count : ℕ} {v q : List ℕ} (fit : Fit c p count v 
   abbrev entry : Row
   entry = record { vector = v; path = q }
 
-  pub costs-fit : (n : ℕ) → n ≤ room k w c p → n * k ≤ length c
-  unfolding room
+  pub costs-fit : (n : ℕ) → n ≤ capacity k w c p → n * k ≤ length c
+  unfolding capacity
   costs-fit n h = le-div-iff-mul-le {k = k} {x = n} {y = length c} (omega (arith, fit .some-costs)) .0 (omega arith)
 
-  pub witnesses-fit : (n : ℕ) → n ≤ room k w c p → n * w ≤ length p
-  unfolding room
+  pub witnesses-fit : (n : ℕ) → n ≤ capacity k w c p → n * w ≤ length p
+  unfolding capacity
   witnesses-fit n h = le-div-iff-mul-le {k = w} {x = n} {y = length p} (omega (arith, fit .some-rows)) .0 (omega arith)
 
   met-is : any (λ (r : Row). noneLarger (r .vector) v) rows ≡ metIn c count v
@@ -133,7 +134,7 @@ module _ {c p : List ℕ} {count : ℕ} {v q : List ℕ} (fit : Fit c p count v 
     place-le = rw (place-is, closed .count-is) (before-le (λ r. earlier r entry) stay)
 
     -- where there is room for a row more, it lies within both tables, and its place not behind it
-    pub row-fits : n < room k w c p → length c′ ≡ length c → length p′ ≡ length p → Bounds k w n place (length c′) (length p′)
+    pub row-fits : n < capacity k w c p → length c′ ≡ length c → length p′ ≡ length p → Bounds k w n place (length c′) (length p′)
     row-fits h lc lp = record {
       costs-end = omega (arith, suc-mul n k, costs-fit (suc n) h);
       witnesses-end = omega (arith, suc-mul n w, witnesses-fit (suc n) h);
@@ -153,22 +154,22 @@ module _ {c p : List ℕ} {count : ℕ} {v q : List ℕ} (fit : Fit c p count v 
 
     module _ (unmet : metIn c count v ≡ false) where
       -- no row went, and the tables are as they were
-      pub enter-full : room k w c p ≤ n → record { answer = full; costs = c′; witnesses = p′ } ≡ enterCall c p count v q
+      pub enter-full : capacity k w c p ≤ n → record { answer = full; costs = c′; witnesses = p′ } ≡ enterCall c p count v q
       unfolding enterCall staying
       enter-full h =
           let all : stay ≡ rows = filter-all (λ r. not (dominates v (r .vector))) rows (omega (arith, fit .enough, closed .count-is, filled-length k w c p count)) in
           let ec : c′ ≡ c = closed .costs-are ∙ (rw all (over-whole vectorOf k rows count c (costs-fit count (fit .enough)) (vectors-are k w c p count))) in
           let ep : p′ ≡ p = closed .witnesses-are ∙ (rw all (over-whole pathOf w rows count p (witnesses-fit count (fit .enough)) (paths-are k w c p count))) in
           rw (ec, ep)
-          (simp (ne-eqb _ _ (fit .some-costs), ne-eqb _ _ (fit .some-rows), le-ltb _ _ (fit .enough), met-is ∙ unmet, lt-ltb (room k w c p) (length new) (omega (arith, new-long))))
+          (simp (ne-eqb _ _ (fit .some-costs), ne-eqb _ _ (fit .some-rows), le-ltb _ _ (fit .enough), met-is ∙ unmet, lt-ltb (capacity k w c p) (length new) (omega (arith, new-long))))
 
-      pub enter-rows : n < room k w c p
+      pub enter-rows : n < capacity k w c p
           → record { answer = entered (n + 1); costs = inserted c′ (place * k) (n * k) v; witnesses = inserted p′ (place * w) (n * w) q } ≡ enterCall c p count v q
       unfolding enterCall staying
       enter-rows h =
           let a : n + 1 ≡ length new = omega (arith, new-long) in
           rw (inserted-is vectorOf k c c′ wide refl (closed .costs-are), inserted-is pathOf w p p′ wide′ refl (closed .witnesses-are), a)
-          (simp (ne-eqb _ _ (fit .some-costs), ne-eqb _ _ (fit .some-rows), le-ltb _ _ (fit .enough), met-is ∙ unmet, le-ltb (room k w c p) (length new) (omega (arith, new-long))))
+          (simp (ne-eqb _ _ (fit .some-costs), ne-eqb _ _ (fit .some-rows), le-ltb _ _ (fit .enough), met-is ∙ unmet, le-ltb (capacity k w c p) (length new) (omega (arith, new-long))))
 
   -- What a caller finds in the tables: the rows of the definition, and as many places as before
 
@@ -183,10 +184,10 @@ module _ {c p : List ℕ} {count : ℕ} {v q : List ℕ} (fit : Fit c p count v 
   unfolding staying
   after-filled = filled-over k w new c p (wide-new vectorOf k wide refl) (wide-new pathOf w wide′ refl)
 
-  pub after-costs : length after ≤ room k w c p → length (costsOver after c) ≡ length c
+  pub after-costs : length after ≤ capacity k w c p → length (costsOver after c) ≡ length c
   unfolding staying
   after-costs h = over-long vectorOf k new c (wide-new vectorOf k wide refl) (costs-fit (length new) h)
 
-  pub after-witnesses : length after ≤ room k w c p → length (witnessesOver after p) ≡ length p
+  pub after-witnesses : length after ≤ capacity k w c p → length (witnessesOver after p) ≡ length p
   unfolding staying
   after-witnesses h = over-long pathOf w new p (wide-new pathOf w wide′ refl) (witnesses-fit (length new) h)

@@ -1,11 +1,11 @@
 -- Entering a vector with its tree in the filled rows of a cost table and a witness table (document 01, shared readings).
 use mathlib.Core.Bool.{_||_}
 use mathlib.Core.List.{List, [], _++_, _∷_, map}
-use Prim.Native.Nat.{_/_, min, ℕ}
+use Prim.Native.Nat.{ℕ}
 use lib.Dec.{eqb, ltb}
 use lib.ListN.{drop, length}
 use Rattle.lists.specs.Lists.{pick}
-use Rattle.pages.specs.Pages.{flat, pieces}
+use Rattle.pages.specs.Pages.{capacity, flat, pieces}
 use Rattle.tables.specs.Tables as tables
 
 -- a row of both tables: a vector and its tree
@@ -21,10 +21,6 @@ beside (v ∷ vs) (p ∷ ps) = record { vector = v; path = p } ∷ beside vs ps
 -- the first count rows, of k costs and w row numbers each
 unfoldable pub filled : ℕ → ℕ → ℕ → List ℕ → List ℕ → List Row
 filled k w count costs witnesses = beside (pieces k count costs) (pieces w count witnesses)
-
--- how many rows both tables have room for
-unfoldable pub room : ℕ → ℕ → List ℕ → List ℕ → ℕ
-room k w costs witnesses = min (length costs / k) (length witnesses / w)
 
 -- what entering comes to: the tables do not have so many rows; a row equals or dominates the vector; there is no room; the new count
 pub data Entering : Type 0 where
@@ -53,10 +49,10 @@ enterCall costs witnesses count vector path =
     let e : Row = record { vector = vector; path = path } in
     let rows = filled k w count costs witnesses in
     let new = tables.replaced (λ r. r .vector) rows e in
-    pick (eqb k 0 || (eqb w 0 || ltb (room k w costs witnesses) count))
+    pick (eqb k 0 || (eqb w 0 || ltb (capacity k w costs witnesses) count))
     (record { answer = unfit; costs = costs; witnesses = witnesses })
     (pick (tables.met (λ r. r .vector) rows e)
     (record { answer = met; costs = costs; witnesses = witnesses })
-    (pick (ltb (room k w costs witnesses) (length new))
+    (pick (ltb (capacity k w costs witnesses) (length new))
     (record { answer = full; costs = costs; witnesses = witnesses })
     (record { answer = entered (length new); costs = costsOver new costs; witnesses = witnessesOver new witnesses })))

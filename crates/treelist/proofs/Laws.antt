@@ -23,8 +23,8 @@ use Rattle.network.specs.Answers.{openedOf, sizesIn}
 use Rattle.network.specs.declared.Header.{Header}
 use Rattle.network.specs.declared.Opened.{Opened}
 use Rattle.network.specs.declared.Opened.the-variants as opened
-use Rattle.pages.specs.Pages.{restAfter}
-use Rattle.operations.specs.Operations.{Fronted, capacity, check, frontCall, frontChecks, graphIn, layoutsIn, pageCall, pageChecks, pickCall, someTree, startChecks}
+use Rattle.pages.specs.Pages.{capacity, restAfter}
+use Rattle.operations.specs.Operations.{FrontTables, Fronted, check, frontCall, frontChecks, frontOver, graphIn, layoutsIn, pageCall, pageChecks, pickCall, someTree, startChecks}
 use Rattle.operations.proofs.Files.{node-count}
 use Rattle.ends.specs.Ends.{endsBy}
 use Rattle.ends.proofs.Ends.{ends-length}
@@ -113,16 +113,17 @@ module _ {f : List ℕ} {h : Header} (g : Given f h) where
   ends-fit side ends e = omega (arith, accepted f (g .met) .rows-high, ap (λ (s : Sizes). s .m) (g .sizes), ap length e, ends-length side f)
 
   -- the rows that Front fills stand within the cost table
-  pub rows-within : {r : FrontAnswer} {c : ℕ} {whole : Bool} {after : List ℕ} (costs witnesses rest : List ℕ) → r ≡ fronted.Rows c whole
-      → record { outcome = frontedOf r; buffers = after } ≡ frontCall f costs witnesses → length after ≡ length costs → c * h .k ≤ length (after ++ rest)
-  unfolding frontCall capacity
+  pub rows-within : {r : FrontAnswer} {c : ℕ} {whole : Bool} {after : FrontTables} (costs witnesses rest : List ℕ) → r ≡ fronted.Rows c whole
+      → record { outcome = frontedOf r; buffers = after } ≡ frontCall f costs witnesses → length (after .costs) ≡ length costs → c * h .k ≤ length (after .costs ++ rest)
+  unfolding frontCall frontOver capacity
   rows-within {r} {c} {whole} {after} costs witnesses rest told e kept =
-      let outcome = sym (ap (λ (x : Ended Fronted (List ℕ)). x .outcome) e) ∙ ap frontedOf told in
-      let (met, same) = ended-answered (frontChecks f costs witnesses) _ costs _ (record { count = c; whole = whole }) outcome in
+      let outcome = sym (ap (λ (x : Ended Fronted FrontTables). x .outcome) e) ∙ ap frontedOf told in
+      let (met, same) = ended-answered (frontChecks f costs witnesses) _ (record { costs = costs; witnesses = witnesses }) _ (record { count = c; whole = whole }) outcome in
       let count = ap (λ (x : Fronted). x .count) same in
-      let few : c ≤ length costs / sizesOf f .k = omega arith in
-      let fits : c * sizesOf f .k ≤ length costs = le-trans (mul-le-mul-right (sizesOf f .k) few) (div-mul-le-self (length costs) (sizesOf f .k)) in
-      simp (length-append, given-criteria .0) (omega arith)
+      let k = length (networkOf f .kinds) in
+      let few : c ≤ length costs / k = omega arith in
+      let fits : c * k ≤ length costs = le-trans (mul-le-mul-right k few) (div-mul-le-self (length costs) k) in
+      simp (length-append, given-criteria .0, ← accepted f (g .met) .kinds) (omega arith)
 
 -- A call of Page in a run, which answers r and leaves the page as `after`.
 pub record Called (f : List ℕ) (h : Header) (start page after : List ℕ) (total : ℕ) (r : PageAnswer) : Type 0 where

@@ -8,10 +8,10 @@ use Rattle.lists.specs.Lists.{all, any, filterB, first, insert, largest, member
 use Rattle.graph.specs.Graph.{isTree, runs}
 use Rattle.graph.specs.Paths.{ascending, isMinimal, keysLess, placeOf, stepOf, stepsFrom, trees}
 use Rattle.checks.specs.Checks.{Ended, Outcome, answered, checked, ended, firstUnmet, refused}
-use Rattle.costs.specs.Costs.{costOf, frontOf, noneLarger, once, someSmaller, vectorLess}
+use Rattle.costs.specs.Costs.{costOf, frontOf, frontTrees, noneLarger, once, someSmaller, treeWith, vectorLess}
 use Rattle.network_file.specs.File.{fileChecks, networkOf, openOf}
-use Rattle.pages.specs.Pages.{flat}
-use Rattle.operations.specs.Operations.{Fronted, Paged, Reached, capacity, costCall, costChecks, drawnChecks, frontCall, frontChecks, orderCall, orderChecks, pageCall, pageChecks, pickCall, reachCall, reachedNodes, startChecks, treeChecks, wordOf}
+use Rattle.pages.specs.Pages.{capacity, flat}
+use Rattle.operations.specs.Operations.{FrontTables, Fronted, Paged, Reached, costCall, costChecks, drawnChecks, frontCall, frontChecks, frontOver, orderCall, orderChecks, pageCall, pageChecks, pickCall, reachCall, reachedNodes, startChecks, treeChecks, wordOf}
 use Rattle.examples.specs.Trials.{fileA}
 use Rattle.trials.specs.Files.{filled, numberOf}
 
@@ -25,11 +25,11 @@ pub rows-257 : numberOf (openOf (filled (1 ∷ 0 ∷ 0 ∷ 8 ∷ 13 ∷ 2 ∷ 1 
 unfolding openOf filled
 rows-257 = refl
 
--- Calls that are lent a buffer
+-- Calls that are lent buffers
 
-module _ {A : Type 0} {o p : Outcome A} {b d : List ℕ} {e : Ended A (List ℕ)} where
+module _ {A B : Type 0} {o p : Outcome A} {b d : B} {e : Ended A B} where
   comes : record { outcome = o; buffers = b } ≡ e → e ≡ record { outcome = p; buffers = d } → (o ≡ p) × (b ≡ d)
-  comes r s = (ap (λ (x : Ended A (List ℕ)). x .outcome) (r ∙ s), ap (λ (x : Ended A (List ℕ)). x .buffers) (r ∙ s))
+  comes r s = (ap (λ (x : Ended A B). x .outcome) (r ∙ s), ap (λ (x : Ended A B). x .buffers) (r ∙ s))
 
 -- Network A
 
@@ -62,13 +62,14 @@ picked-a : pickCall 3 (0 ∷ 2 ∷ 0 ∷ 3 ∷ 1 ∷ 2 ∷ 1 ∷ 3 ∷ []) 1 ≡
 unfolding pickCall
 picked-a = refl
 
-fronted-1 : frontCall fileA (0 ∷ 0 ∷ []) (0 ∷ 0 ∷ []) ≡ record { outcome = answered (record { count = 1; whole = false }); buffers = 7 ∷ 7 ∷ [] }
-unfolding all any same sum largest filterB insert sort sequences member placeOf stepOf stepsFrom ascending keysLess isMinimal trees costOf noneLarger someSmaller vectorLess once frontOf flat firstUnmet checked ended networkOf fileChecks capacity frontChecks frontCall
+fronted-1 : frontCall fileA (0 ∷ 0 ∷ []) (0 ∷ 0 ∷ [])
+    ≡ record { outcome = answered (record { count = 1; whole = false }); buffers = record { costs = 7 ∷ 7 ∷ []; witnesses = 0 ∷ 3 ∷ [] } }
+unfolding all any same sum largest filterB first insert sort sequences member placeOf stepOf stepsFrom ascending keysLess isMinimal trees costOf noneLarger someSmaller vectorLess once frontOf treeWith frontTrees flat capacity firstUnmet checked ended networkOf fileChecks frontOver frontChecks frontCall
 fronted-1 = refl
 
 fronted-3 : frontCall fileA (replicate 6 0) (replicate 6 0)
-    ≡ record { outcome = answered (record { count = 3; whole = true }); buffers = 7 ∷ 7 ∷ 8 ∷ 6 ∷ 11 ∷ 5 ∷ [] }
-unfolding all any same sum largest filterB insert sort sequences member placeOf stepOf stepsFrom ascending keysLess isMinimal trees costOf noneLarger someSmaller vectorLess once frontOf flat firstUnmet checked ended networkOf fileChecks capacity frontChecks frontCall
+    ≡ record { outcome = answered (record { count = 3; whole = true }); buffers = record { costs = 7 ∷ 7 ∷ 8 ∷ 6 ∷ 11 ∷ 5 ∷ []; witnesses = 0 ∷ 3 ∷ 2 ∷ 3 ∷ 1 ∷ 2 ∷ [] } }
+unfolding all any same sum largest filterB first insert sort sequences member placeOf stepOf stepsFrom ascending keysLess isMinimal trees costOf noneLarger someSmaller vectorLess once frontOf treeWith frontTrees flat capacity firstUnmet checked ended networkOf fileChecks frontOver frontChecks frontCall
 fronted-3 = refl
 
 module _ {f : List ℕ} (e : f ≡ fileA) where
@@ -95,9 +96,9 @@ module _ {f : List ℕ} (e : f ≡ fileA) where
     pub pick-a : {tree : List ℕ} → tree ≡ pickCall 3 page 1 → tree ≡ 0 ∷ 3 ∷ []
     pick-a p = p ∙ ap (λ (x : List ℕ). pickCall 3 x 1) (page-is .1) ∙ picked-a
 
-  module _ {o : Outcome Fronted} {b : List ℕ} where
+  module _ {o : Outcome Fronted} {b : FrontTables} where
     pub front-1 : record { outcome = o; buffers = b } ≡ frontCall f (0 ∷ 0 ∷ []) (0 ∷ 0 ∷ [])
-        → (o ≡ answered (record { count = 1; whole = false })) × (b ≡ 7 ∷ 7 ∷ [])
+        → (o ≡ answered (record { count = 1; whole = false })) × (b ≡ record { costs = 7 ∷ 7 ∷ []; witnesses = 0 ∷ 3 ∷ [] })
     front-1 r = comes r (ap (λ (x : List ℕ). frontCall x (0 ∷ 0 ∷ []) (0 ∷ 0 ∷ [])) e ∙ fronted-1)
 
     pub front-3 : record { outcome = o; buffers = b } ≡ frontCall f (replicate 6 0) (replicate 6 0) → o ≡ answered (record { count = 3; whole = true })

@@ -244,6 +244,8 @@ fn fronts(file: &[u8])
     check::expect(!whole(cut));
     check::expect(vector[0] == 7);
     check::expect(vector[1] == 7);
+    check::expect(tree[0] == 0);
+    check::expect(tree[1] == 3);
     // with three
     let mut vectors = [0; 6];
     let mut trees = [0; 6];

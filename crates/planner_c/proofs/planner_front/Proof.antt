@@ -1,6 +1,5 @@
 -- What the borrow checker leaves to prove of planner_front.
-use mathlib.Core.Path.{ap, refl}
-use native.Mathlib.Omega.{arith}
+use mathlib.Core.Path.{ap}
 use Rattle.front.specs.Answers.{frontedOf}
 use Rattle.planner_c.specs.Calls.{frontedValues, plannerFront}
 use Rattle.planner_c.proofs.Laws.{beside-refused, beside-short, beside-two, two-same}
@@ -10,9 +9,7 @@ use Rattle.planner_c.proofs.planner_front.Tie as tie
 
 returns : tie.Need-returns
 unfolding plannerFront
-returns c =
-    let few = c .if1 .taken in
-    (beside-short frontedValues _ _ _ 2 few, record { short = λ h. refl; listed = λ h. absurd (omega arith) })
+returns c = beside-short frontedValues _ _ _ 2 (c .if1 .taken)
 
 front-requires : tie.Need-front-requires
 front-requires c κs = search needs
@@ -50,11 +47,9 @@ same-length-3 c = search needs
 returns-2 : tie.Need-returns-2
 unfolding plannerFront
 returns-2 c =
-    let enough = c .before .before .before .before .before .before .before .before .before .before .before .before .if1 .left in
-    let ends = c .before .before .before .before .before .before .before .before .before .front .ensures in (
-      beside-two frontedValues _ _ _ _ _ (ends .0) _ _ _ enough (ap frontedOf (c .before .before .before .fronted .given .1)) (two-same (c .before .held-count .ensures) (c .digit-of .ensures)),
-      record { short = λ h. absurd (omega arith); listed = λ h. ends .1 },
-    )
+    let at = c .before .before .before .before .before .before .before .before .before in
+    beside-two frontedValues _ _ _ _ _ (at .front .ensures) _ _ _ (at .before .before .before .if1 .left) (ap frontedOf (c .before .before .before .fronted .given .1))
+    (two-same (c .before .held-count .ensures) (c .digit-of .ensures))
 
 same-length-4 : tie.Need-same-length-4
 same-length-4 c = search needs
@@ -65,11 +60,8 @@ same-length-5 c = search needs
 returns-3 : tie.Need-returns-3
 unfolding plannerFront
 returns-3 c =
-    let enough = c .before .before .before .before .before .before .before .before .before .before .if1 .left in
-    let ends = c .before .before .before .before .before .before .before .front .ensures in (
-      beside-refused frontedValues _ _ _ _ _ (ends .0) 2 _ enough (ap frontedOf (c .before .fronted2 .given .1)),
-      record { short = λ h. absurd (omega arith); listed = λ h. ends .1 },
-    )
+    let at = c .before .before .before .before .before .before .before in
+    beside-refused frontedValues _ _ _ _ _ (at .front .ensures) 2 _ (at .before .before .before .if1 .left) (ap frontedOf (c .before .fronted2 .given .1))
 
 pub planner-front-spec : {M : Type 1} → statement M
 planner-front-spec =

@@ -4,18 +4,18 @@ use mathlib.Core.Bool.{false}
 use native.Mathlib.Omega.{arith}
 use borrow.Author.Needs.{needs}
 use lib.ListN.{length}
-use Rattle.table.specs.Enter.{room}
+use Rattle.pages.specs.Pages.{capacity}
 use Rattle.table.specs.Parts.{metIn, placeIn}
 use Rattle.table.proofs.Closing.{Bounds}
 use Rattle.table.proofs.Entering.{Fit, costs-fit, enter-full, enter-met, enter-rows, row-fits, unfit-count, unfit-path, unfit-vector, witnesses-fit}
 use Rattle.table.proofs.enter.Statement.{statement}
 use Rattle.table.proofs.enter.Tie as tie
 
--- the code's room is that of the definition
+-- the code's room is the capacity of both tables
 room-is : (c : tie.After-least)
     → let a = c .before .before .before .before .before .before .before .args in
-    c .least .result ≡ room (length (a .vector .now)) (length (a .path .now)) (a .costs .now) (a .witnesses .now)
-unfolding room
+    c .least .result ≡ capacity (length (a .vector .now)) (length (a .path .now)) (a .costs .now) (a .witnesses .now)
+unfolding capacity
 room-is c = c .least .ensures
 
 fit : (c : tie.Else3)

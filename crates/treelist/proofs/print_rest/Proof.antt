@@ -60,7 +60,7 @@ returns c = search needs
 print-front-requires : tie.Need-print-front-requires
 print-front-requires c κs =
     let front = c .before .before .before .before .before .before .before .before .before .front in
-    rows-within (c .before .before .before .before .before .before .before .before .before .before .before .before .before .before .before .before .before .before .pre) _ _ _ (c .before .before .before .answer .given .1) (front .ensures .0) (front .kept .1 .0)
+    rows-within (c .before .before .before .before .before .before .before .before .before .before .before .before .before .before .before .before .before .before .pre) _ _ _ (c .before .before .before .answer .given .1) (front .ensures) (front .kept .1 .0)
 
 print-end-requires : tie.Need-print-end-requires
 print-end-requires c κs = search needs
