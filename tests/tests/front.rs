@@ -303,13 +303,8 @@ fn tables(read: &Listed, rng: &mut Rng) -> [usize; 3] {
 
 /// Whether a vector of the front is that of several trees, so that the witness is one among them.
 fn several_trees(read: &Listed) -> bool {
-    let costs = |tree: &Vec<u16>| costs::vector(&read.network, tree);
-    let of_front = read
-        .list
-        .iter()
-        .map(costs)
-        .filter(|v| read.front.contains(v));
-    of_front.count() > read.front.len()
+    let of_front = |tree: &&Vec<u16>| read.front.contains(&costs::vector(&read.network, tree));
+    read.list.iter().filter(of_front).count() > read.front.len()
 }
 
 /// Front over networks that are made so.

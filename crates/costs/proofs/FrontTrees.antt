@@ -5,7 +5,7 @@ use mathlib.Core.Option.{some}
 use mathlib.Core.List.{List, _++_, _∷_, map, Memᴰ·of-map as map-out}
 use Prim.Native.Nat.{ℕ}
 use lib.ListN.{length, length-map}
-use Rattle.lists.specs.Lists.{first, same}
+use Rattle.lists.specs.Lists.{firstWith, same}
 use Rattle.lists.proofs.Maps.{map-back}
 use Rattle.lists.proofs.Members.{_∈_, first-in, first-out, first-stands, same-of, same-out}
 use Rattle.graph.specs.Paths.{pathIn}
@@ -14,7 +14,7 @@ use Rattle.costs.specs.Network.{Network}
 use Rattle.costs.proofs.Fronts.{front-out}
 
 module _ (g : Network) (trees : List (List ℕ)) where
-  pub witness-found : (v : List ℕ) → v ∈ map (costOf g) trees → first (λ p. same v (costOf g p)) trees ≡ some (treeWith g trees v)
+  pub witness-found : (v : List ℕ) → v ∈ map (costOf g) trees → firstWith (costOf g) v trees ≡ some (treeWith g trees v)
   unfolding treeWith
   witness-found v m =
       let (p, i, e) = map-out (costOf g) trees m in

@@ -4,7 +4,7 @@ use mathlib.Core.List.{List, [], _∷_, map}
 use Prim.Native.Nat.{_+_, suc, ℕ}
 use lib.Dec.{eqb, leb, ltb}
 use lib.ListN.{getD}
-use Rattle.lists.specs.Lists.{any, filterB, first, largest, member, same, sort, sum}
+use Rattle.lists.specs.Lists.{any, filterB, firstWith, largest, member, same, sort, sum}
 use Rattle.graph.specs.Paths.{pathIn}
 use Rattle.costs.specs.Network.{Kind, Network, added, closing, rowAt, worst}
 use Rattle.costs.specs.Layouts.{layouts}
@@ -94,7 +94,7 @@ frontVectors g trees = frontOf (map (costOf g) trees)
 
 -- asked only of a vector that one of the trees has
 unfoldable pub treeWith : Network → List (List ℕ) → List ℕ → List ℕ
-treeWith g trees v = pathIn (first (λ p. same v (costOf g p)) trees)
+treeWith g trees v = pathIn (firstWith (costOf g) v trees)
 
 unfoldable pub frontTrees : Network → List (List ℕ) → List (List ℕ)
 frontTrees g trees = map (treeWith g trees) (frontVectors g trees)

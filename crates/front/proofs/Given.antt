@@ -2,11 +2,11 @@
 use mathlib.Core.Path.{_≡_, ap, refl}
 use mathlib.Core.List.{List}
 use Prim.Native.Nat.{_-_, _/_, _≤_, min, ℕ}
-use native.Mathlib.Nat.{le-div-iff-mul-le}
 use native.Mathlib.Omega.{arith}
 use lib.ListN.{length, take}
 use Rattle.lists.proofs.Tests.{T-true}
 use Rattle.network_file.specs.File.{Sizes}
+use Rattle.pages.proofs.Pages.{rows-end}
 use Rattle.operations.specs.Operations.{layoutsIn}
 use Rattle.operations.proofs.Exists.{some-out}
 use Rattle.spread.specs.Spread.{neighboursOf}
@@ -42,6 +42,6 @@ module _ {f : List ℕ} {h : Sizes} (l : Lists f h) where
   -- the lent tables hold as many rows as the smaller quotient says
   pub lent : (costs witnesses : List ℕ) (rows : ℕ) → rows ≡ min (length costs / h .k) (length witnesses / (h .n - 1)) → Holding rows (h .k) (h .n - 1) costs witnesses
   lent costs witnesses rows e = record {
-    costs-fit = le-div-iff-mul-le {k = h .k} {x = rows} {y = length costs} (omega (arith, criteria-some)) .0 (omega arith);
-    trees-fit = le-div-iff-mul-le {k = h .n - 1} {x = rows} {y = length witnesses} (omega (arith, nodes-several)) .0 (omega arith);
+    costs-fit = rows-end rows (h .k) (length costs) (omega arith);
+    trees-fit = rows-end rows (h .n - 1) (length witnesses) (omega arith);
   }

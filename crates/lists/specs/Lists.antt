@@ -91,3 +91,7 @@ same [] [] = true
 same [] (y ∷ q) = false
 same (x ∷ p) [] = false
 same (x ∷ p) (y ∷ q) = eqb x y && same p q
+
+-- the first whose key is v
+abbrev pub firstWith : {A : Type 0} (key : A → List ℕ) → List ℕ → List A → Option A
+firstWith key v l = first (λ a. same v (key a)) l

@@ -51,6 +51,10 @@ unfolding flat
 length-flat w [] long = omega arith
 length-flat w (p ∷ l) long = omega (arith, length-append p (flat l), long p (here refl), length-flat w l (λ q m. long q (there m)))
 
+-- as many rows of w places as the quotient says end within a page or a table
+pub rows-end : (n w len : ℕ) → n ≤ len / w → n * w ≤ len
+rows-end n w len h = le-trans (mul-le-mul-right w h) (div-mul-le-self len w)
+
 -- a call leaves the page as long as it was
 pub length-pageAfter : (w : ℕ) (page : List ℕ) (rest : List (List ℕ)) → ((p : List ℕ) → p ∈ rest → length p ≡ w)
     → length (pageAfter w page rest) ≡ length page
@@ -58,8 +62,7 @@ length-pageAfter w page rest long =
     let c = pageCount w page rest in
     let count : length (take c rest) ≡ c = length-take c rest ∙ omega arith in
     let written : length (flat (take c rest)) ≡ c * w = length-flat w (take c rest) (λ p m. long p (take-out c rest m)) ∙ ap (λ n. n * w) count in
-    let few : c ≤ length page / w = omega arith in
-    let fits : c * w ≤ length page = le-trans (mul-le-mul-right w few) (div-mul-le-self (length page) w) in
+    let fits = rows-end c w (length page) (omega arith) in
     simp (length-append, length-drop, written) (omega arith)
 
 -- a start that is a tree

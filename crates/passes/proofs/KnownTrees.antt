@@ -6,6 +6,7 @@ use mathlib.Core.Option.{some}
 use mathlib.Core.List.{List, map, Memᴰ·of-map as map-out}
 use Prim.Native.Nat.{ℕ}
 use lib.ListN.{drop, take}
+use Rattle.lists.specs.Lists.{firstWith}
 use Rattle.lists.proofs.Ascending.{take-ascending, take-less-drop}
 use Rattle.lists.proofs.Maps.{map-back, map-take}
 use Rattle.lists.proofs.Members.{_∈_, take-or-drop, take-out}
@@ -16,7 +17,6 @@ use Rattle.costs.specs.Network.{Network}
 use Rattle.costs.proofs.FrontTrees.{front-vectors, witness-found, witness-out}
 use Rattle.costs.proofs.Fronts.{front-ascending, front-out}
 use Rattle.costs.proofs.Vectors.{vector-order}
-use Rattle.tables.specs.Tables.{firstWith}
 use Rattle.tables.proofs.Known.{Known}
 use Rattle.tables.proofs.Witness.{Firsts}
 

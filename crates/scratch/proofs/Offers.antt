@@ -3,23 +3,20 @@ use mathlib.Core.Path.{_≡_, ap}
 use mathlib.Core.Bool.{false, true}
 use mathlib.Core.List.{List}
 use Prim.Native.Nat.{_*_, _+_, _/_, _<_, _≤_, suc, ℕ}
-use native.Mathlib.Nat.{le-div-iff-mul-le, suc-mul}
+use native.Mathlib.Nat.{suc-mul}
 use native.Mathlib.Omega.{arith}
 use lib.ListN.{length}
 use borrow.Author.Tests.{eq-eqb, le-leb, le-ltb, lt-leb, lt-ltb, ne-eqb}
+use Rattle.pages.proofs.Pages.{rows-end}
 use Rattle.tables.specs.Tables.{below}
 use Rattle.table.specs.Enter.{EnterEnd, enterCall}
 use Rattle.table.specs.Parts.{metIn}
 use Rattle.scratch.specs.Scratch.{Offered, boundIn, offerOf, offered}
 use Rattle.scratch.specs.declared.Scratch.{Scratch}
 
--- rows of k places end within a table
-module _ (k n len : ℕ) (some-places : k ≡ 0 → ⊥) where
-  pub rows-end : n ≤ len / k → n * k ≤ len
-  rows-end h = le-div-iff-mul-le {k = k} {x = n} {y = len} (omega arith) .0 h
-
-  pub next-row-ends : n < len / k → n * k + k ≤ len
-  next-row-ends h = rw suc-mul at (le-div-iff-mul-le {k = k} {x = suc n} {y = len} (omega arith) .0 h)
+-- the row behind n others ends within a table
+pub next-row-ends : (n k len : ℕ) → n < len / k → n * k + k ≤ len
+next-row-ends n k len h = rw suc-mul at (rows-end (suc n) k len h)
 
 module _ (known : List ℕ) (n : ℕ) (costs witnesses : List ℕ) (rows : ℕ) (s : Scratch) (vector path : List ℕ) where
   abbrev model : Offered

@@ -4,7 +4,7 @@ use mathlib.Core.Logic.{⊎-elim}
 use mathlib.Core.Bool.{Bool, false, not, true}
 use mathlib.Core.List.{List, [], _++_, _∷_, map}
 use Prim.Native.Nat.{_*_, _+_, _<_, _≤_, suc, ℕ}
-use native.Mathlib.Nat.{le-div-iff-mul-le, mul-le-mul-right, suc-mul}
+use native.Mathlib.Nat.{mul-le-mul-right, suc-mul}
 use native.Mathlib.Omega.{arith}
 use borrow.Author.Tests.{eq-eqb, le-ltb, lt-ltb, ne-eqb}
 use lib.ListN.{drop, length, take}
@@ -15,6 +15,7 @@ use Rattle.lists.proofs.Tests.{pick-elim}
 use Rattle.lists.proofs.Maps.{map-any}
 use Rattle.costs.specs.Costs.{dominates, noneLarger, vectorLess}
 use Rattle.pages.specs.Pages.{capacity}
+use Rattle.pages.proofs.Pages.{rows-end}
 use Rattle.tables.specs.Tables.{replaced}
 use Rattle.table.specs.Enter.{Row, costsOver, enterCall, entered, filled, full, met, unfit, witnessesOver}
 use Rattle.table.specs.Parts.{Closed, before, inserted, metIn, placeIn, staying}
@@ -100,11 +101,11 @@ module _ {c p : List ℕ} {count : ℕ} {v q : List ℕ} (fit : Fit c p count v 
 
   pub costs-fit : (n : ℕ) → n ≤ capacity k w c p → n * k ≤ length c
   unfolding capacity
-  costs-fit n h = le-div-iff-mul-le {k = k} {x = n} {y = length c} (omega (arith, fit .some-costs)) .0 (omega arith)
+  costs-fit n h = rows-end n k (length c) (omega arith)
 
   pub witnesses-fit : (n : ℕ) → n ≤ capacity k w c p → n * w ≤ length p
   unfolding capacity
-  witnesses-fit n h = le-div-iff-mul-le {k = w} {x = n} {y = length p} (omega (arith, fit .some-rows)) .0 (omega arith)
+  witnesses-fit n h = rows-end n w (length p) (omega arith)
 
   met-is : any (λ (r : Row). noneLarger (r .vector) v) rows ≡ metIn c count v
   met-is = map-any vectorOf (λ u. noneLarger u v) rows ∙ ap (any (λ u. noneLarger u v)) (vectors-are k w c p count)

@@ -11,14 +11,14 @@ use native.Mathlib.Omega.{arith}
 use lib.Dec.{T, leb, ltb}
 use lib.ListN.{drop, getD, length, take}
 use lib.Seq.{append-snoc}
-use Rattle.lists.specs.Lists.{filterB, first, pick, same, someIf}
+use Rattle.lists.specs.Lists.{filterB, first, firstWith, pick, same, someIf}
 use Rattle.lists.proofs.Members.{_∈_, any-in, any-out, filter-out, first-here, first-there, same-in, same-of, same-out, take-out}
 use Rattle.lists.proofs.Orders.{insert-out}
 use Rattle.lists.proofs.Tests.{pick-elim}
 use Rattle.costs.specs.Costs.{dominates, frontOf, noneLarger, vectorLess}
 use Rattle.costs.proofs.Fronts.{Sized, sized-append, sized-snoc}
 use Rattle.costs.proofs.Vectors.{noneLarger-trans}
-use Rattle.tables.specs.Tables.{Found, Plan, Table, below, bounded, conclude, enterBounded, firstAt, firstWith, met, pass, passes, placed, plan, replaced, walk}
+use Rattle.tables.specs.Tables.{Found, Plan, Table, below, bounded, conclude, enterBounded, firstAt, met, pass, passes, placed, plan, replaced, walk}
 use Rattle.tables.proofs.Bare.{bare, bare-enter, bare-met, bare-passes, barePlan}
 use Rattle.tables.proofs.Enter.{seen-met}
 use Rattle.tables.proofs.Known.{Known, known-nothing, rows-known}

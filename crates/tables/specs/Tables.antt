@@ -6,7 +6,7 @@ use mathlib.Core.List.{List, [], _∷_}
 use Prim.Native.Nat.{suc, zero, ℕ}
 use lib.Dec.{ltb}
 use lib.ListN.{drop, length, take}
-use Rattle.lists.specs.Lists.{any, filterB, first, insert, pick, same}
+use Rattle.lists.specs.Lists.{any, filterB, insert, pick, same}
 use Rattle.costs.specs.Costs.{dominates, noneLarger, vectorLess}
 
 -- rows that ascend and do not dominate one another, and a bound: what is not less than it is left to a later walk
@@ -74,10 +74,6 @@ module _ {E : Type 0} (key : E → List ℕ) where
 
   abbrev pub plan : ℕ → List E → Plan E
   plan cap es = passes cap (suc cap) [] es
-
--- the first entry that carries the vector v
-abbrev pub firstWith : {E : Type 0} (key : E → List ℕ) → List ℕ → List E → Option E
-firstWith key v es = first (λ e. same v (key e)) es
 
 -- A vector, and its place in the list that is walked.
 pub record Found : Type 0 where

@@ -4,7 +4,7 @@ use mathlib.Core.Bool.{Bool, false, not, true}
 use mathlib.Core.Option.{none}
 use mathlib.Core.List.{List, [], _++_, _∷_, List·Memᴰ·head as here}
 use Prim.Native.Nat.{_*_, _+_, _-_, _/_, _<_, _^_, _≤_, min, pred, suc, ℕ}
-use native.Mathlib.Nat.{div-mul-le-self, le-trans, mul-le-mul-right, suc-mul}
+use native.Mathlib.Nat.{le-trans, mul-le-mul-right, suc-mul}
 use native.Mathlib.Numerals.{add-one}
 use native.Mathlib.Omega.{arith}
 use lib.Dec.{leb}
@@ -24,6 +24,7 @@ use Rattle.network.specs.declared.Header.{Header}
 use Rattle.network.specs.declared.Opened.{Opened}
 use Rattle.network.specs.declared.Opened.the-variants as opened
 use Rattle.pages.specs.Pages.{capacity, restAfter}
+use Rattle.pages.proofs.Pages.{rows-end}
 use Rattle.operations.specs.Operations.{FrontTables, Fronted, check, frontCall, frontChecks, frontOver, graphIn, layoutsIn, pageCall, pageChecks, pickCall, someTree, startChecks}
 use Rattle.operations.proofs.Files.{node-count}
 use Rattle.ends.specs.Ends.{endsBy}
@@ -121,8 +122,7 @@ module _ {f : List ℕ} {h : Header} (g : Given f h) where
       let (met, same) = ended-answered (frontChecks f costs witnesses) _ (record { costs = costs; witnesses = witnesses }) _ (record { count = c; whole = whole }) outcome in
       let count = ap (λ (x : Fronted). x .count) same in
       let k = length (networkOf f .kinds) in
-      let few : c ≤ length costs / k = omega arith in
-      let fits : c * k ≤ length costs = le-trans (mul-le-mul-right k few) (div-mul-le-self (length costs) k) in
+      let fits = rows-end c k (length costs) (omega arith) in
       simp (length-append, given-criteria .0, ← accepted f (g .met) .kinds) (omega arith)
 
 -- A call of Page in a run, which answers r and leaves the page as `after`.

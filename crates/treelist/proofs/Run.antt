@@ -5,7 +5,7 @@ use mathlib.Core.Bool.{false, true}
 use mathlib.Core.Option.{Option·none-ne-some, Option·some-injective, none, some}
 use mathlib.Core.List.{List, [], _++_, _∷_, append-assoc, List·Memᴰ·head as here, List·Memᴰ·tail as there}
 use Prim.Native.Nat.{_*_, _+_, _-_, _/_, _<_, _^_, _≤_, min, pred, suc, zero, ℕ}
-use native.Mathlib.Nat.{div-mul-le-self, le-div-iff-mul-le, le-trans, mul-le-mul-right, suc-mul, zero-mul}
+use native.Mathlib.Nat.{le-div-iff-mul-le, suc-mul, zero-mul}
 use native.Mathlib.Omega.{arith}
 use lib.Dec.{T}
 use lib.ListN.{drop, getD, getElem?, length, length-drop, length-take, take}
@@ -19,7 +19,7 @@ use Rattle.checks.specs.Checks.{Ended, Outcome, answered, firstUnmet, refused}
 use Rattle.network_file.specs.File.{fileChecks}
 use Rattle.network_file.proofs.Accepted.{accepted}
 use Rattle.pages.specs.Pages.{flat, lastOf, moreAfter, pageAfter, pageCount, restAfter}
-use Rattle.pages.proofs.Pages.{lastOf-at, length-pageAfter, restAfter-drop}
+use Rattle.pages.proofs.Pages.{lastOf-at, length-pageAfter, restAfter-drop, rows-end}
 use Rattle.operations.specs.Operations.{Paged, graphIn, layoutsIn, pageCall, someTree}
 use Rattle.operations.proofs.Files.{layouts-in, several}
 use Rattle.operations.proofs.Runs.{page-call}
@@ -47,8 +47,7 @@ full-page : (w : ℕ) (page : List ℕ) (rest : List (List ℕ)) → 0 < w → w
     → (0 < pageCount w page rest) × (pageCount w page rest * w ≤ length page)
 full-page w page rest pos room more =
     let one : 1 ≤ length page / w = le-div-iff-mul-le {k = w} {x = 1} {y = length page} pos .1 (omega arith) in
-    let few : pageCount w page rest ≤ length page / w = omega arith in
-    (omega arith, le-trans (mul-le-mul-right w few) (div-mul-le-self (length page) w))
+    (omega arith, rows-end (pageCount w page rest) w (length page) (omega arith))
 
 -- The run so far: the first `written` trees, the last of which is the start of the next call, and the count of them.
 pub record Run (f start : List ℕ) (total : ℕ) : Type 0 where

@@ -1,6 +1,7 @@
 use mathlib.Core.Path.{_∙_, sym}
 use borrow.Author.Needs.{needs}
-use Rattle.scratch.proofs.Offers.{next-row-ends, offer-beyond, offer-entered, offer-met, offer-nothing, offer-short, offer-unknown, rows-end}
+use Rattle.pages.proofs.Pages.{rows-end}
+use Rattle.scratch.proofs.Offers.{next-row-ends, offer-beyond, offer-entered, offer-met, offer-nothing, offer-short, offer-unknown}
 use Rattle.scratch.proofs.offer.Statement.{statement}
 use Rattle.scratch.proofs.offer.Tie as tie
 
@@ -20,10 +21,10 @@ returns-3 : tie.Need-returns-3
 returns-3 c = offer-unknown _ _ _ _ _ _ _ _ (c .before .before .if1 .left) (c .before .if2 .left) (c .if3 .taken)
 
 is-below-requires : tie.Need-is-below-requires
-is-below-requires c κs = next-row-ends _ _ _ (c .before .before .before .if1 .left) (c .before .before .if2 .left)
+is-below-requires c κs = next-row-ends _ _ _ (c .before .before .if2 .left)
 
 meets-requires : tie.Need-meets-requires
-meets-requires c κs = rows-end _ _ _ (c .before .before .before .before .before .if1 .left) (c .before .before .before .if3 .left)
+meets-requires c κs = rows-end _ _ _ (c .before .before .before .if3 .left)
 
 same-length : tie.Need-same-length
 same-length c = search needs
