@@ -1,7 +1,8 @@
 //! What the tests of the proved library share: the calls, a generator of numbers, network files, what damages them,
-//! networks and drawn rows, lent buffers, and independent code for document 01 in plain Rust: `reading`, `trees`,
-//! `costs` and `operations`.
+//! networks and drawn rows, lent buffers, the contracts in src/ as text, and independent code for document 01 in plain
+//! Rust: `reading`, `trees`, `costs` and `operations`.
 
+pub mod contracts;
 pub mod costs;
 pub mod damage;
 pub mod draw;

@@ -1,11 +1,14 @@
--- What a call comes to, by the first of its checks that is not met; and checks behind others (`firstUnmet-stops`).
-use mathlib.Core.Path.{_∙_, _≡_, ap, refl}
-use mathlib.Core.Option.{Option, none, some}
-use mathlib.Core.List.{List, [], _++_, _∷_, append-assoc, Memᴰ·append-left as append-left, Memᴰ·append-right as append-right}
+-- What a call comes to, by the first of its checks that is not met; checks behind others (`firstUnmet-stops`); and one that alone has its number (`stops-only`).
+use mathlib.Core.Path.{_∙_, _≡_, ap, refl, subst, sym}
+use mathlib.Core.Logic.{_↔_}
+use mathlib.Core.Bool.{Bool, false, true}
+use mathlib.Core.Option.{Option, Option·some-injective, none, some}
+use mathlib.Core.List.{List, _++_, _∷_, append-assoc, Memᴰ·append-left as append-left, Memᴰ·append-right as append-right, List·Memᴰ·head as here, map, Memᴰ·map as map-in}
 use Prim.Native.Nat.{ℕ}
 use native.Mathlib.Omega.{arith}
+use Rattle.lists.proofs.Members.{_∈_}
 use Rattle.checks.specs.Checks.{Check, answered, buffersBy, checked, ended, firstUnmet, outcomeBy, refused}
-use Rattle.checks.proofs.Checks.{met-all, stops-iff}
+use Rattle.checks.proofs.Checks.{firstUnmet-append, firstUnmet-met, firstUnmet-unmet, met-all, stops-iff}
 
 -- what stops a list of checks stops it with others behind
 pub firstUnmet-stops : (cs ds : List Check) (e : ℕ) → firstUnmet cs ≡ some e → firstUnmet (cs ++ ds) ≡ some e
@@ -20,6 +23,31 @@ firstUnmet-stops cs ds e h =
       unmet = s .unmet;
       numbered = s .numbered;
     })
+
+-- Checks stop at one whose number no other has exactly if those before it are met and it is not.
+pub stops-only : (cs : List Check) (c : Check) (ds : List Check) → ¬ (c .number ∈ map (λ d. d .number) cs) → ¬ (c .number ∈ map (λ d. d .number) ds)
+    → (firstUnmet (cs ++ (c ∷ ds)) ≡ some (c .number)) ↔ ((firstUnmet cs ≡ none) × (c .met ≡ false))
+stops-only cs c ds others later = (
+  front (firstUnmet cs) refl,
+  λ (met, unmet). firstUnmet-append cs (c ∷ ds) met ∙ firstUnmet-unmet c ds unmet,
+)
+  where
+    -- the number of the first check not met is one of theirs
+    known : (l : List Check) → firstUnmet l ≡ some (c .number) → c .number ∈ map (λ d. d .number) l
+    known l h =
+        let s = stops-iff l (c .number) .0 h in
+        subst (λ (n : ℕ). n ∈ map (λ (d : Check). d .number) l) (s .numbered)
+        (map-in (λ (d : Check). d .number) (subst (λ (k : List Check). s .stop ∈ k) (sym (s .parts)) (append-right (s .before) (here refl))))
+
+    itself : (t : Bool) → c .met ≡ t → firstUnmet (c ∷ ds) ≡ some (c .number) → c .met ≡ false
+    itself true met h = absurd (later (known ds (sym (firstUnmet-met c ds met) ∙ h)))
+    itself false unmet h = unmet
+
+    front : (o : Option ℕ) → firstUnmet cs ≡ o → firstUnmet (cs ++ (c ∷ ds)) ≡ some (c .number) → (firstUnmet cs ≡ none) × (c .met ≡ false)
+    front none met h = (met, itself (c .met) refl (sym (firstUnmet-append cs (c ∷ ds) met) ∙ h))
+    front (some e) stop h =
+        let same : e ≡ c .number = Option·some-injective _ _ (sym (firstUnmet-stops cs (c ∷ ds) e stop) ∙ h) in
+        absurd (others (known cs (stop ∙ ap some same)))
 
 -- checks that are met with others behind are met, and so are those
 pub unmet-parts : (cs ds : List Check) → firstUnmet (cs ++ ds) ≡ none → (firstUnmet cs ≡ none) × (firstUnmet ds ≡ none)

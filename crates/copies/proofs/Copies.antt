@@ -1,5 +1,5 @@
 -- What the loop copies fits both tables (`room-least`, `copied-is`); where all fits, all is copied (`copied-all`).
-use mathlib.Core.Path.{_∙_, _≡_, ap}
+use mathlib.Core.Path.{_≡_, ap}
 use mathlib.Core.List.{List}
 use Prim.Native.Nat.{_+_, _-_, _≤_, min, ℕ}
 use native.Mathlib.Omega.{arith}
@@ -19,10 +19,9 @@ pub room-least : (table at places n m : ℕ) → m ≡ room table at places n �
 unfolding room
 room-least table at places n m e = (omega arith, omega arith)
 
-pub copied-is : (table : List ℕ) (at : ℕ) (places : List ℕ) (n m i : ℕ) (new : List ℕ) → m ≡ room (length table) at (length places) n → i ≡ m → new ≡ paste table at places i
-    → new ≡ copied table at places n
+pub copied-is : (table : List ℕ) (at : ℕ) (places : List ℕ) (n m : ℕ) → m ≡ room (length table) at (length places) n → paste table at places m ≡ copied table at places n
 unfolding copied
-copied-is table at places n m i new e f g = g ∙ ap (paste table at places) (f ∙ e)
+copied-is table at places n m e = ap (paste table at places) e
 
 pub copied-all : (table : List ℕ) (at : ℕ) (places : List ℕ) (n : ℕ) → at + n ≤ length table → n ≤ length places → copied table at places n ≡ paste table at places n
 unfolding copied room

@@ -15,9 +15,10 @@ use Rattle.network_file.specs.File.{Sizes, networkOf, sizesOf}
 use Rattle.operations.specs.Operations.{costCall, costChecks, graphIn, over}
 use Rattle.operations.proofs.Costs.{cost-same}
 use Rattle.operations.proofs.Files.{formed}
-use Rattle.drawn.specs.Answers.{drawnCall, drawnOf}
-use Rattle.drawn.specs.declared.DrawnAnswer.{DrawnAnswer}
+use Rattle.drawn.specs.Answers.{drawnCall}
 use Rattle.drawn.proofs.Answers.{Passed, answered-by, call-met, call-refused, call-short}
+use Rattle.tried.specs.Answers.{drawnOf}
+use Rattle.tried.specs.declared.DrawnAnswer.{DrawnAnswer}
 use Rattle.vector.specs.Vector.{vectorOf}
 use Rattle.vector.proofs.Vectors.{rows-few, vector-costs, vector-most}
 use Rattle.paths.specs.Path.{rowsIn}

@@ -33,7 +33,7 @@ pub fn cost(file: &[u8], rows: &[u16], buffer: &mut [u32]) -> Costed
     if number != 0 {
         return Costed::Refused(number);
     }
-    let header = network::header_of(file);
+    let header = fields::header_of(file);
     let k = header.k as usize;
     if buffer.len() < k {
         return Costed::Refused(11);

@@ -3,24 +3,26 @@
 -- `call-short`, `call-met`).
 use mathlib.Core.Path.{_∙_, _≡_, ap, refl, subst, sym}
 use mathlib.Core.Bool.{Bool, false, true}
-use mathlib.Core.Option.{none, some}
+use mathlib.Core.Option.{Option, none, some}
 use mathlib.Core.List.{List, [], _++_, _∷_, map, List·Memᴰ·head as here, List·Memᴰ·tail as there, Memᴰ·append-right as append-right}
 use Prim.Native.Nat.{_-_, _≤_, pred, ℕ}
 use native.Mathlib.Omega.{arith}
 use lib.Dec.{T, eqb, ltb, ltb→lt}
 use lib.ListN.{length, length-map, take}
-use borrow.Author.Tests.{eq-eqb, eqb-true, ne-eqb}
+use borrow.Author.Tests.{eqb-true}
 use Rattle.lists.specs.Lists.{all}
 use Rattle.lists.proofs.Members.{_∈_, all-out}
 use Rattle.lists.proofs.Tests.{T-true}
 use Rattle.graph.specs.Graph.{isTree, width}
-use Rattle.graph.specs.Paths.{Key, pathIn, pathOf}
+use Rattle.graph.specs.Paths.{Key, andThen, pathOf, steps}
 use Rattle.graph.proofs.Minimal.{minimal-parts}
 use Rattle.graph.proofs.PathOf.{pathOf-tree}
-use Rattle.checks.specs.Checks.{Check, Ended, Outcome, answered, checked, ended, firstUnmet, refused}
+use Rattle.graph.proofs.Steps.{steps-rows}
+use Rattle.checks.specs.Checks.{Check, Ended, answered, ended, firstUnmet, refused}
 use Rattle.checks.proofs.Checks.{firstUnmet-append, firstUnmet-met, firstUnmet-unmet, met-all, stops-iff}
-use Rattle.checks.proofs.Ended.{checked-answered, checked-met, checked-refused, checked-unmet, ended-met, ended-unmet, firstUnmet-stops, unmet-parts}
+use Rattle.checks.proofs.Ended.{ended-answered, ended-met, ended-refused, ended-unmet, firstUnmet-stops, unmet-parts}
 use Rattle.costs.specs.Layouts.{keepsStates}
+use Rattle.bounds.proofs.Missing.{rows-map}
 use Rattle.network_file.specs.File.{Sizes, fileChecks, networkOf, openOf, sizesOf}
 use Rattle.network_file.proofs.Accepted.{Accepted, accepted}
 use Rattle.network_file.proofs.Opened.{open-answered, open-refused}
@@ -29,20 +31,19 @@ use Rattle.operations.proofs.Files.{formed, node-count}
 use Rattle.ends.specs.Ends.{endsBy, nodesWord}
 use Rattle.ends.specs.declared.Rows.the-variants.{All}
 use Rattle.ends.proofs.Ends.{first-part, nodes-graph, nodes-has, second-part}
-use Rattle.paths.specs.Path.{keysOf}
-use Rattle.drawn.specs.Answers.{drawnCall, drawnOf}
-use Rattle.drawn.specs.Tried.{triedOf}
-use Rattle.drawn.specs.declared.DrawnAnswer.{DrawnAnswer}
-use Rattle.drawn.proofs.Trees.{Fits, tried-checks}
+use Rattle.paths.specs.Path.{keysOf, rowsIn}
+use Rattle.tried.specs.Answers.{PathSteps, drawnOf, keysIn, minimalSteps, noSteps}
+use Rattle.tried.specs.Tried.{triedOf}
+use Rattle.tried.specs.declared.DrawnAnswer.{DrawnAnswer}
+use Rattle.tried.proofs.Laws.{outcome-answered, outcome-refused}
+use Rattle.tried.proofs.Trees.{Fits, tried-checks}
+use Rattle.drawn.specs.Answers.{drawnCall, drawnTable}
 
 -- By Open's answer
 
-abbrev pub drawnTable : List ℕ → List ℕ → List Check
-drawnTable f rows = fileChecks f ++ drawnChecks (networkOf f) rows
-
 -- checks 8, 9 and 10 alone
-abbrev pub treeCall : List ℕ → List ℕ → Outcome (List ℕ)
-treeCall f rows = checked (treeChecks (graphIn f) rows) (pathIn (pathOf (graphIn f) rows))
+abbrev pub treeCall : List ℕ → List ℕ → Ended (Unit {0}) PathSteps
+treeCall f rows = ended (treeChecks (graphIn f) rows) tt noSteps (minimalSteps (graphIn f) rows)
 
 -- Open's refusals are numbered from 1
 numbered : (f : List ℕ) (e : ℕ) → firstUnmet (fileChecks f) ≡ some e → ¬ (e ≡ 0)
@@ -53,13 +54,13 @@ numbered f e h z =
     let from-one : T (all (λ c. ltb 0 (c .number)) (fileChecks f)) = tt in
     omega (arith, ltb→lt 0 (s .stop .number) (all-out (λ c. ltb 0 (c .number)) from-one listed), s .numbered)
 
-pub open-stops : (f rows : List ℕ) (e : ℕ) → openOf f ≡ refused e → (drawnCall f rows ≡ refused e) × (¬ (e ≡ 0))
+pub open-stops : (f rows : List ℕ) (e : ℕ) → openOf f ≡ refused e → (drawnCall f rows ≡ record { outcome = refused e; buffers = noSteps }) × (¬ (e ≡ 0))
 unfolding drawnCall
 open-stops f rows e h =
     let stop = open-refused f e h in
-    (checked-unmet (drawnTable f rows) _ e (firstUnmet-stops (fileChecks f) (drawnChecks (networkOf f) rows) e stop), numbered f e stop)
+    (ended-unmet (drawnTable f rows) tt noSteps _ e (firstUnmet-stops (fileChecks f) (drawnChecks (networkOf f) rows) e stop), numbered f e stop)
 
-pub file-fits : (f : List ℕ) → Accepted f → Fits (graphIn f) (sizesOf f .n) (nodesWord (sizesOf f .n))
+file-fits : (f : List ℕ) → Accepted f → Fits (graphIn f) (sizesOf f .n) (nodesWord (sizesOf f .n))
 file-fits f a = record {
   formed = formed f a;
   low = λ v m. nodes-has (sizesOf f .n) v (omega (arith, a .nodes-high)) .0 (nodes-graph f a v .1 m) .1;
@@ -73,8 +74,8 @@ module _ (f : List ℕ) (s : Sizes) (h : openOf f ≡ answered s) where
   met : (firstUnmet (fileChecks f) ≡ none) × (sizesOf f ≡ s)
   met = open-answered f s h
 
-  pub opened : (2 ≤ s .n) × (s .m ≤ 256)
-  opened = let a = accepted f (met .0) in subst (λ (s : Sizes). (2 ≤ s .n) × (s .m ≤ 256)) (met .1) (a .nodes-low, a .rows-high)
+  pub opened : 2 ≤ s .n
+  opened = let a = accepted f (met .0) in subst (λ (s : Sizes). 2 ≤ s .n) (met .1) (a .nodes-low)
 
   -- the code passes what Open answers
   pub tried-drawn : (rows firsts seconds : List ℕ) (nodes : ℕ) → firsts ≡ endsBy (λ row. row .firstEnd) f → seconds ≡ endsBy (λ row. row .secondEnd) f
@@ -95,26 +96,27 @@ module _ (f : List ℕ) (s : Sizes) (h : openOf f ≡ answered s) where
     pub tree-stops : ¬ (d .number ≡ 0) → drawnOf d ≡ drawnCall f rows
     unfolding drawnCall drawnChecks
     tree-stops n =
-        let e : drawnOf d ≡ refused (d .number) = rw (ne-eqb _ _ n) in
-        let stop = checked-refused (treeChecks (graphIn f) rows) _ (d .number) (sym asked ∙ e) in
-        e ∙ sym (checked-unmet (drawnTable f rows) _ (d .number) (behind ∙ firstUnmet-stops (treeChecks (graphIn f) rows) (check 15 kept ∷ []) (d .number) stop))
+        let stop = ended-refused (treeChecks (graphIn f) rows) tt noSteps _ (d .number) (outcome-refused d asked n) in
+        asked ∙ ended-unmet (treeChecks (graphIn f) rows) tt noSteps _ (d .number) stop
+        ∙ sym (ended-unmet (drawnTable f rows) tt noSteps _ (d .number) (behind ∙ firstUnmet-stops (treeChecks (graphIn f) rows) (check 15 kept ∷ []) (d .number) stop))
 
     module _ (z : d .number ≡ 0) where
+      tree : firstUnmet (treeChecks (graphIn f) rows) ≡ none
+      tree = ended-answered (treeChecks (graphIn f) rows) tt noSteps _ tt (outcome-answered d asked z) .0
+
       fifteen : firstUnmet (drawnTable f rows) ≡ firstUnmet (check 15 kept ∷ [])
       unfolding drawnChecks
-      fifteen =
-          let (tree, _) = checked-answered (treeChecks (graphIn f) rows) _ (map (λ (k : Key). k .row) (keysOf (d .path))) (sym asked ∙ (rw (eq-eqb _ _ z))) in
-          behind ∙ firstUnmet-append (treeChecks (graphIn f) rows) (check 15 kept ∷ []) tree
+      fifteen = behind ∙ firstUnmet-append (treeChecks (graphIn f) rows) (check 15 kept ∷ []) tree
 
-      pub states-broken : kept ≡ false → drawnCall f rows ≡ refused 15
+      pub states-broken : kept ≡ false → drawnCall f rows ≡ record { outcome = refused 15; buffers = noSteps }
       unfolding drawnCall
-      states-broken e = checked-unmet (drawnTable f rows) _ 15 (fifteen ∙ firstUnmet-unmet (check 15 kept) [] e)
+      states-broken e = ended-unmet (drawnTable f rows) tt noSteps _ 15 (fifteen ∙ firstUnmet-unmet (check 15 kept) [] e)
 
       pub states-kept : kept ≡ true → drawnOf d ≡ drawnCall f rows
       unfolding drawnCall firstUnmet
       states-kept e =
-          let (tree, _) = checked-answered (treeChecks (graphIn f) rows) _ (map (λ (k : Key). k .row) (keysOf (d .path))) (sym asked ∙ (rw (eq-eqb _ _ z))) in
-          asked ∙ checked-met (treeChecks (graphIn f) rows) _ tree ∙ sym (checked-met (drawnTable f rows) _ (fifteen ∙ firstUnmet-met (check 15 kept) [] e))
+          asked ∙ ended-met (treeChecks (graphIn f) rows) tt noSteps _ tree
+          ∙ sym (ended-met (drawnTable f rows) tt noSteps _ (fifteen ∙ firstUnmet-met (check 15 kept) [] e))
 
 -- By the code's answer
 
@@ -128,54 +130,61 @@ pub record Passed (f rows ps : List ℕ) : Type 0 where
   pub path : pathOf (graphIn f) rows ≡ some ps
   pub long : length ps ≡ width (graphIn f)
 
-module _ (f rows : List ℕ) where
-  passed : (ps : List ℕ) → drawnCall f rows ≡ answered ps → Passed f rows ps
-  unfolding drawnCall drawnChecks treeChecks
-  passed ps h =
-      let (met, same) = checked-answered (drawnTable f rows) _ ps h in
-      let (of-file, behind) = unmet-parts (fileChecks f) (drawnChecks (networkOf f) rows) met in
-      let each = met-all (drawnChecks (networkOf f) rows) .0 behind in
-      let file = accepted f of-file in
-      let tree = T-true (isTree (graphIn f) rows) .1 (each (check 10 (isTree (graphIn f) rows)) (there (there (here refl)))) in
-      let (qs, found, minimal, _, _) = pathOf-tree (graphIn f) (formed f file) rows tree in
-      let count : length qs ≡ pred (length (graphIn f .nodes)) = omega (arith, minimal-parts (graphIn f) qs minimal .0) in
-      let e : qs ≡ ps = sym (ap pathIn found) ∙ same in
-      record {
-        met = met;
-        file = file;
-        size = eqb-true _ _ (each (check 8 (eqb (length rows) (width (graphIn f)))) (here refl));
-        tree = tree;
-        states = T-true (keepsStates (networkOf f) rows) .1 (each (check 15 (keepsStates (networkOf f) rows)) (there (there (there (here refl)))));
-        path = found ∙ ap some e;
-        long = sym (ap length e) ∙ count;
-      }
+module _ (f rows : List ℕ) (d : DrawnAnswer) (asked : drawnOf d ≡ drawnCall f rows) where
+  pub refused-by : ¬ (d .number ≡ 0) → firstUnmet (drawnTable f rows) ≡ some (d .number)
+  unfolding drawnCall
+  refused-by n = ended-refused (drawnTable f rows) tt noSteps _ (d .number) (outcome-refused d asked n)
 
-  module _ (d : DrawnAnswer) (asked : drawnOf d ≡ drawnCall f rows) where
-    pub refused-by : ¬ (d .number ≡ 0) → firstUnmet (drawnTable f rows) ≡ some (d .number)
+  module _ (z : d .number ≡ 0) where
+    all-met : firstUnmet (drawnTable f rows) ≡ none
     unfolding drawnCall
-    refused-by n = checked-refused (drawnTable f rows) _ (d .number) (sym asked ∙ (rw (ne-eqb _ _ n)))
+    all-met = ended-answered (drawnTable f rows) tt noSteps _ tt (outcome-answered d asked z) .0
 
-    pub answered-by : d .number ≡ 0 → Passed f rows (map (λ (k : Key). k .row) (keysOf (d .path)))
-    answered-by z = passed _ (sym asked ∙ (rw (eq-eqb _ _ z)))
+    -- the steps are those of the tree's minimal path
+    keys : keysOf (d .path) ≡ keysIn (andThen (pathOf (graphIn f) rows) (steps (graphIn f)))
+    unfolding drawnCall
+    keys = ap (λ (e : Ended (Unit {0}) PathSteps). e .buffers .keys) (asked ∙ ended-met (drawnTable f rows) tt noSteps _ all-met)
 
-    -- a call with check 11, which is b, behind these
-    module _ (b : Bool) (before after : List ℕ) where
-      abbrev checks : List Check
-      checks = drawnTable f rows ++ (check 11 b ∷ [])
+    pub answered-by : Passed f rows (rowsIn (d .path))
+    unfolding drawnChecks treeChecks
+    answered-by =
+        let (of-file, behind) = unmet-parts (fileChecks f) (drawnChecks (networkOf f) rows) all-met in
+        let each = met-all (drawnChecks (networkOf f) rows) .0 behind in
+        let file = accepted f of-file in
+        let tree = T-true (isTree (graphIn f) rows) .1 (each (check 10 (isTree (graphIn f) rows)) (there (there (here refl)))) in
+        let (qs, found, minimal, _, _) = pathOf-tree (graphIn f) (formed f file) rows tree in
+        let (long, (ks, made, _)) = minimal-parts (graphIn f) qs minimal in
+        let count : length qs ≡ pred (length (graphIn f .nodes)) = omega (arith, long) in
+        let of-path : keysOf (d .path) ≡ ks = keys ∙ ap (λ (path : Option (List ℕ)). keysIn (andThen path (steps (graphIn f)))) found ∙ ap keysIn made in
+        let e : qs ≡ rowsIn (d .path) = sym (steps-rows (graphIn f) _ qs ks made) ∙ rows-map ks ∙ ap (λ (keys : List Key). map (λ (k : Key). k .row) keys) (sym of-path) in
+        record {
+          met = all-met;
+          file = file;
+          size = eqb-true _ _ (each (check 8 (eqb (length rows) (width (graphIn f)))) (here refl));
+          tree = tree;
+          states = T-true (keepsStates (networkOf f) rows) .1 (each (check 15 (keepsStates (networkOf f) rows)) (there (there (there (here refl)))));
+          path = found ∙ ap some e;
+          long = sym (ap length e) ∙ count;
+        }
 
-      abbrev call : Ended (Unit {0}) (List ℕ)
-      call = ended checks tt before after
+  -- a call with check 11, which is b, behind these
+  module _ (b : Bool) (before after : List ℕ) where
+    abbrev checks : List Check
+    checks = drawnTable f rows ++ (check 11 b ∷ [])
 
-      pub call-refused : ¬ (d .number ≡ 0) → call ≡ record { outcome = refused (d .number); buffers = before }
-      call-refused n = ended-unmet checks tt before after (d .number) (firstUnmet-stops (drawnTable f rows) (check 11 b ∷ []) (d .number) (refused-by n))
+    abbrev call : Ended (Unit {0}) (List ℕ)
+    call = ended checks tt before after
 
-      module _ (z : d .number ≡ 0) where
-        last : firstUnmet checks ≡ firstUnmet (check 11 b ∷ [])
-        last = firstUnmet-append (drawnTable f rows) (check 11 b ∷ []) (answered-by z .met)
+    pub call-refused : ¬ (d .number ≡ 0) → call ≡ record { outcome = refused (d .number); buffers = before }
+    call-refused n = ended-unmet checks tt before after (d .number) (firstUnmet-stops (drawnTable f rows) (check 11 b ∷ []) (d .number) (refused-by n))
 
-        pub call-short : b ≡ false → call ≡ record { outcome = refused 11; buffers = before }
-        call-short e = ended-unmet checks tt before after 11 (last ∙ firstUnmet-unmet (check 11 b) [] e)
+    module _ (z : d .number ≡ 0) where
+      last : firstUnmet checks ≡ firstUnmet (check 11 b ∷ [])
+      last = firstUnmet-append (drawnTable f rows) (check 11 b ∷ []) (all-met z)
 
-        pub call-met : b ≡ true → call ≡ record { outcome = answered tt; buffers = after }
-        unfolding firstUnmet
-        call-met e = ended-met checks tt before after (last ∙ firstUnmet-met (check 11 b) [] e)
+      pub call-short : b ≡ false → call ≡ record { outcome = refused 11; buffers = before }
+      call-short e = ended-unmet checks tt before after 11 (last ∙ firstUnmet-unmet (check 11 b) [] e)
+
+      pub call-met : b ≡ true → call ≡ record { outcome = answered tt; buffers = after }
+      unfolding firstUnmet
+      call-met e = ended-met checks tt before after (last ∙ firstUnmet-met (check 11 b) [] e)

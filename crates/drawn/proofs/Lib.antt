@@ -1,4 +1,1 @@
 pub mod Answers
-pub mod Laws
-pub mod Only
-pub mod Trees

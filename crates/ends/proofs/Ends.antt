@@ -17,8 +17,8 @@ use Rattle.lists.proofs.Members.{_∈_, range-in, range-out}
 use Rattle.lists.proofs.Ranges.{getD-map-range, range-length}
 use Rattle.lists.proofs.Tests.{T-either}
 use Rattle.costs.specs.Network.{Row, graphOf, noRow, rowAt}
-use Rattle.network.specs.Answers.{rowWith}
-use Rattle.network.specs.declared.Row as code
+use Rattle.fields.specs.Fields.{rowWith}
+use Rattle.fields.specs.declared.Row as code
 use Rattle.network_file.specs.File.{networkOf, sizesOf}
 use Rattle.network_file.proofs.Accepted.{Accepted, row-past, rows-length}
 use Rattle.words.specs.Words.{bit, has}

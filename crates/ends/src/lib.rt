@@ -4,7 +4,7 @@ ghost use mathlib.Core.Path.{_≡_};
 ghost use mathlib.Core.List.{[]};
 ghost use Prim.Native.Nat.{min};
 ghost use Rattle.costs.specs.Network.{Row};
-ghost use Rattle.network.specs.Answers.{rowWith};
+ghost use Rattle.fields.specs.Fields.{rowWith};
 ghost use Rattle.network_file.specs.File.{sizesOf};
 ghost use Rattle.ends.specs.Ends.{endIn, endsBy, nodesWord};
 
@@ -22,14 +22,14 @@ pub struct RowEnds {
 }
 
 // An end of a row; 0 where the row is left out.
-fn end_in(rows: Rows, row: network::Row, end: u8) -> u8
+fn end_in(rows: Rows, row: fields::Row, end: u8) -> u8
     ensures { λ r. ⌜ r ≡ endIn rows (rowWith row []) end ⌝ }
 {
     let state = row.state;
     match rows {
         Rows::All => end,
-        Rows::Unbarred => { if network::is_barred(state) { 0 } else { end } }
-        Rows::Must => { if network::is_must(state) { end } else { 0 } }
+        Rows::Unbarred => { if fields::is_barred(state) { 0 } else { end } }
+        Rows::Must => { if fields::is_must(state) { end } else { 0 } }
     }
 }
 
@@ -37,7 +37,7 @@ fn end_in(rows: Rows, row: network::Row, end: u8) -> u8
 fn row_count(file: &[u8]) -> usize
     ensures { λ r. ⌜ r ≡ min (sizesOf (now (file .entry)) .m) 256 ⌝ }
 {
-    let header = network::header_of(file);
+    let header = fields::header_of(file);
     let m = header.m as usize;
     if m < 256 { m } else { 256 }
 }
@@ -51,7 +51,7 @@ pub fn ends_of(file: &[u8], rows: Rows) -> RowEnds
     let m = row_count(file);
     let mut r: usize = 0;
     while r < m {
-        let row = network::row_at(file, r);
+        let row = fields::row_at(file, r);
         firsts[r] = end_in(rows, row, row.first);
         seconds[r] = end_in(rows, row, row.second);
         r += 1;

@@ -23,10 +23,9 @@ use Rattle.bounds.proofs.Skip.{cost-length}
 use Rattle.network_file.specs.File.{networkOf}
 use Rattle.operations.specs.Operations.{layoutsIn, openIn}
 use Rattle.operations.proofs.Files.{formed, layouts-open-in, several}
-use Rattle.paths.specs.Path.{enteredBy, keysOf, plantOf, rowsIn}
+use Rattle.paths.specs.Path.{keysOf, plantOf, rowsIn}
 use Rattle.paths.specs.declared.Path.{Path}
-use Rattle.grow.specs.Grow.{freshAfter}
-use Rattle.grow.specs.Musts.{growWith}
+use Rattle.grow.specs.Musts.{firstOf}
 use Rattle.walk.specs.Walk.{afterOf, nextOf}
 use Rattle.walk.specs.declared.Next.{Next}
 use Rattle.walk.proofs.Behind.{after-beyond, afterIn, first-path, firstPath, last-path, next-path}
@@ -52,12 +51,6 @@ pub record Turn (f : List ℕ) (rows k width plant n : ℕ) (costs₀ witnesses�
   pub same-costs : length costs ≡ length costs₀
   pub same-witnesses : length witnesses ≡ length witnesses₀
 
-pub first-grown : (nb firsts seconds mustNb mustFirsts mustSeconds : List ℕ) (limit plant nodes width fresh : ℕ) (start : Path) (keys : List Key)
-    → plantOf start ≡ plant → keysOf start ≡ [] → fresh ≡ freshAfter nodes (enteredBy (plantOf start) (keysOf start))
-    → keys ≡ growWith nb firsts seconds mustNb mustFirsts mustSeconds limit (plantOf start) width fresh (keysOf start) 0 0
-    → keys ≡ growWith nb firsts seconds mustNb mustFirsts mustSeconds limit plant width (freshAfter nodes (enteredBy plant [])) [] 0 0
-first-grown nb firsts seconds mustNb mustFirsts mustSeconds limit plant nodes width fresh start keys p e q r = r ∙ (rw (q, e, p))
-
 module _ {f nb firsts seconds mustNb mustFirsts mustSeconds : List ℕ} {limit plant nodes width k : ℕ}
     (l : Laid f nb firsts seconds mustNb mustFirsts mustSeconds limit plant nodes width k) where
   abbrev g : Graph
@@ -80,7 +73,7 @@ module _ {f nb firsts seconds mustNb mustFirsts mustSeconds : List ℕ} {limit p
   same-list = layouts-with (networkOf f) (formed f (l .accepted))
 
   -- what the code makes of accepted steps is the first path
-  first-is : (keys : List Key) → keys ≡ growWith nb firsts seconds mustNb mustFirsts mustSeconds limit plant width (freshAfter nodes (enteredBy plant [])) [] 0 0
+  first-is : (keys : List Key) → keys ≡ firstOf nb firsts seconds mustNb mustFirsts mustSeconds limit plant nodes width
       → Full g (start g) musts keys × FirstIn g L (rowsOf keys)
   first-is keys e =
       let (full, first) = first-path (l .mustered) (l .fitted) (l .tree) (subst (λ (x : List (List ℕ)). l .tree ∈ x) same-list (l .listed)) in
@@ -89,7 +82,7 @@ module _ {f nb firsts seconds mustNb mustFirsts mustSeconds : List ℕ} {limit p
 
   module _ (rows n : ℕ) where
     pub turn-start : (path : Path) (costs witnesses : List ℕ) → plantOf path ≡ plant
-        → keysOf path ≡ growWith nb firsts seconds mustNb mustFirsts mustSeconds limit plant width (freshAfter nodes (enteredBy plant [])) [] 0 0
+        → keysOf path ≡ firstOf nb firsts seconds mustNb mustFirsts mustSeconds limit plant nodes width
         → Turn f rows k width plant n costs witnesses (record { count = 0; bounded = false }) path costs witnesses
     turn-start path costs witnesses same e =
         let (whole, first) = first-is (keysOf path) e in

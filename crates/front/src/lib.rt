@@ -1,17 +1,14 @@
 //! Front: the vectors of the network's trees that no such tree's vector dominates, ascending, each with the first tree of the list that has it.
 //! Passes over the list: rows known to be final stand in the lent tables, candidates behind them in a scratch table of the function's own.
 ghost use mathlib.Core.Path.{_≡_};
-ghost use mathlib.Core.List.{[]};
 ghost use Prim.Native.Nat.{_*_, _+_};
 ghost use lib.ListN.{length};
 ghost use lib.Seq.{paste};
 ghost use Rattle.costs.specs.Costs.{costOf};
-ghost use Rattle.grow.specs.Grow.{freshAfter};
-ghost use Rattle.grow.specs.Musts.{growWith};
 ghost use Rattle.network_file.proofs.Accepted.{Accepted};
 ghost use Rattle.network_file.specs.File.{networkOf, sizesOf};
 ghost use Rattle.operations.specs.Operations.{frontCall};
-ghost use Rattle.paths.specs.Path.{enteredBy, keysOf, plantOf, rowsIn};
+ghost use Rattle.paths.specs.Path.{rowsIn};
 ghost use Rattle.network.specs.Answers.{openedOf};
 ghost use Rattle.scratch.specs.Scratch.{offerOf};
 ghost use Rattle.spread.specs.Spread.{neighboursOf};
@@ -37,39 +34,6 @@ fn skip_length(path: Path) -> usize
     ensures { λ r. ⌜ r ≡ length (rowsIn path) ⌝ }
 {
     path.length()
-}
-
-// The first path of the list.
-fn first(
-    neighbours: &[u64],
-    firsts: &[u8],
-    seconds: &[u8],
-    claims: &[u64],
-    heads: &[u8],
-    tails: &[u8],
-    limit: u8,
-    plant: u8,
-    nodes: u64,
-    width: usize,
-) -> Path
-    ensures { λ r. ⌜ (plantOf r ≡ plant) × (keysOf r ≡ growWith (now (neighbours .entry)) (now (firsts .entry)) (now (seconds .entry)) (now (claims .entry)) (now (heads .entry)) (now (tails .entry)) limit plant width (freshAfter nodes (enteredBy plant [])) [] 0 0) ⌝ }
-{
-    let start = Path::start(plant);
-    let fresh = grow::fresh_after(nodes, start);
-    grow::grown_with(
-        neighbours,
-        firsts,
-        seconds,
-        claims,
-        heads,
-        tails,
-        limit,
-        width,
-        fresh,
-        start,
-        0,
-        0,
-    )
 }
 
 // The cost vector of a path of an accepted file, in words of 32 bits.
@@ -136,7 +100,7 @@ fn pass(
         count: 0,
         bounded: false,
     };
-    let mut path = first(
+    let mut path = grow::first_path(
         neighbours,
         firsts,
         seconds,

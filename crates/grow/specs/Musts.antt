@@ -1,7 +1,7 @@
 -- Growing a path that must have given rows, as a computation. `mustFirsts` and `mustSeconds` are the ends of the rows with 0 for every other row, and `mustNb` the
 -- neighbours of each node by the must rows. A node is claimed if must rows lead to it: only a must row may enter it.
 use mathlib.Core.Option.{Option, none, some}
-use mathlib.Core.List.{List}
+use mathlib.Core.List.{List, []}
 use Prim.Native.Nat.{suc, zero, ℕ}
 use lib.Dec.{eqb}
 use Rattle.lists.specs.Lists.{pick}
@@ -10,7 +10,7 @@ use Rattle.words.specs.Words.{bit, minus}
 use Rattle.spread.specs.Spread.{openAt, seedsOf, spreadOf}
 use Rattle.search.specs.Search.{firstStepOf}
 use Rattle.paths.specs.Path.{enteredBy, extendedBy}
-use Rattle.grow.specs.Grow.{kept}
+use Rattle.grow.specs.Grow.{freshAfter, kept}
 
 -- the nodes that must rows lead to
 unfoldable pub claimedOf : List ℕ → ℕ → ℕ → List ℕ → ℕ → ℕ → ℕ
@@ -40,3 +40,7 @@ module _ (nb firsts seconds mustNb mustFirsts mustSeconds : List ℕ) (limit : �
     | none ↦ keys
     | some k ↦ growWith plant steps (minus fresh (bit (k .node))) (extendedBy keys (kept k)) (k .place) (k .node)
   ]
+
+  -- the first path of all: such steps from the plant on, over nodes of this word
+  abbrev pub firstOf : ℕ → ℕ → ℕ → List Key
+  firstOf plant nodes steps = growWith plant steps (freshAfter nodes (enteredBy plant [])) [] 0 0

@@ -7,7 +7,7 @@ ghost use Rattle.graph.specs.Paths.{follows};
 ghost use Rattle.search.specs.Search.{firstStepOf, foundOf, keyOf};
 ghost use Rattle.spread.specs.Spread.{seedsOf};
 ghost use Rattle.grow.specs.Grow.{freshAfter, growOf, openPast};
-ghost use Rattle.grow.specs.Musts.{acceptedOf, earlierOf, growWith};
+ghost use Rattle.grow.specs.Musts.{acceptedOf, earlierOf, firstOf, growWith};
 use paths::Path;
 use search::Found;
 use search::Step;
@@ -232,4 +232,37 @@ pub fn grown_with(
         open = words::minus(open, words::bit(step.node));
     }
     p
+}
+
+/// The first path of all with all must rows, from the plant on; at most so many steps.
+pub fn first_path(
+    neighbours: &[u64],
+    firsts: &[u8],
+    seconds: &[u8],
+    claims: &[u64],
+    heads: &[u8],
+    tails: &[u8],
+    limit: u8,
+    plant: u8,
+    nodes: u64,
+    steps: usize,
+) -> Path
+    ensures { λ r. ⌜ (plantOf r ≡ plant) × (keysOf r ≡ firstOf (now (neighbours .entry)) (now (firsts .entry)) (now (seconds .entry)) (now (claims .entry)) (now (heads .entry)) (now (tails .entry)) limit plant nodes steps) ⌝ }
+{
+    let start = Path::start(plant);
+    let fresh = fresh_after(nodes, start);
+    grown_with(
+        neighbours,
+        firsts,
+        seconds,
+        claims,
+        heads,
+        tails,
+        limit,
+        steps,
+        fresh,
+        start,
+        0,
+        0,
+    )
 }

@@ -1,7 +1,7 @@
 -- What the walk is given of an accepted file fits the graph without the barred rows (`file-fitted`) and the must rows (`file-mustered`); so the
 -- first path tells whether the network has a tree (`listed-test`).
-use mathlib.Core.Path.{_≡_, ap, refl, subst, sym}
-use mathlib.Core.List.{List, [], _∷_, map}
+use mathlib.Core.Path.{_≡_, subst, sym}
+use mathlib.Core.List.{List, map}
 use Prim.Native.Nat.{_-_, ℕ}
 use native.Mathlib.Omega.{arith}
 use lib.Dec.{eqb, eqb→eq}
@@ -10,10 +10,10 @@ use Rattle.lists.specs.Lists.{both, hasAll}
 use Rattle.lists.proofs.Members.{_∈_, hasAll-in, hasAll-out, range-out}
 use Rattle.lists.proofs.Tests.{T-both, T-same, eq→eqb}
 use Rattle.graph.specs.Paths.{Key}
-use Rattle.graph.proofs.Growth.{rowsOf}
 use Rattle.costs.specs.Layouts.{mustFirsts, mustRows, mustSeconds, openEnd}
 use Rattle.costs.specs.Network.{Row}
 use Rattle.costs.proofs.Layouts.{must-distinct, must-length, must-low, must-masked}
+use Rattle.bounds.proofs.Missing.{rows-map}
 use Rattle.states.proofs.Open.{layouts-with}
 use Rattle.network_file.specs.File.{networkOf, sizesOf}
 use Rattle.network_file.proofs.Accepted.{Accepted, rows-length}
@@ -27,10 +27,6 @@ use Rattle.spread.proofs.Spreads.{neighbours-charted}
 use Rattle.grow.proofs.Musts.{Mustered, mustered}
 use Rattle.walk.proofs.Behind.{Fitted, some-path}
 use Rattle.listed.specs.Listed.{firstFrom}
-
-pub rows-map : (ks : List Key) → map (λ (k : Key). k .row) ks ≡ rowsOf ks
-rows-map [] = refl
-rows-map (k ∷ ks) = ap (λ (l : List ℕ). k .row ∷ l) (rows-map ks)
 
 module _ (f : List ℕ) (a : Accepted f) where
   abbrev n : ℕ
@@ -68,9 +64,9 @@ module _ (f : List ℕ) (a : Accepted f) where
       let (p, m) = some-out (layoutsIn f) t in
       let (e, all) = some .0 (p, subst (λ (l : List (List ℕ)). p ∈ l) same m) in
       T-both (eqb (length fileKeys) (n - 1)) (hasAll (mustRows w) (map (λ (k : Key). k .row) fileKeys)) .1
-      (eq→eqb (length fileKeys) (n - 1) e, hasAll-in (mustRows w) (map (λ (k : Key). k .row) fileKeys) (rw (rows-map fileKeys) all)))
+      (eq→eqb (length fileKeys) (n - 1) e, hasAll-in (mustRows w) (map (λ (k : Key). k .row) fileKeys) (rw (← rows-map fileKeys) all)))
       (λ t.
       let (e, all) = T-both (eqb (length fileKeys) (n - 1)) (hasAll (mustRows w) (map (λ (k : Key). k .row) fileKeys)) .0 t in
       let has = hasAll-out (mustRows w) (map (λ (k : Key). k .row) fileKeys) all in
-      let (p, m) = some .1 (eqb→eq (length fileKeys) (n - 1) e, rw (rows-map fileKeys) at has) in
+      let (p, m) = some .1 (eqb→eq (length fileKeys) (n - 1) e, rw (← rows-map fileKeys) at has) in
       some-in (subst (λ (l : List (List ℕ)). p ∈ l) (sym same) m))

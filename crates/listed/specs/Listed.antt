@@ -3,11 +3,9 @@ use mathlib.Core.List.{List, [], _++_, _∷_}
 use Prim.Native.Nat.{ℕ}
 use Rattle.checks.specs.Checks.{Check, Outcome, checked}
 use Rattle.graph.specs.Paths.{Key}
-use Rattle.grow.specs.Grow.{freshAfter}
-use Rattle.grow.specs.Musts.{growWith}
+use Rattle.grow.specs.Musts.{firstOf}
 use Rattle.network_file.specs.File.{Sizes, fileChecks, sizesOf}
 use Rattle.operations.specs.Operations.{check, layoutsIn, someTree}
-use Rattle.paths.specs.Path.{enteredBy}
 use Rattle.spread.specs.Spread.{neighboursOf}
 
 abbrev pub listedChecks : List ℕ → List Check
@@ -19,4 +17,4 @@ listedCall f = checked (listedChecks f) (sizesOf f)
 -- the steps of the first path over rows with these ends that has all rows of `heads` and `tails`, at most so many
 unfoldable pub firstFrom : List ℕ → List ℕ → List ℕ → List ℕ → ℕ → ℕ → ℕ → ℕ → List Key
 firstFrom firsts seconds heads tails limit plant nodes width =
-    growWith (neighboursOf firsts seconds) firsts seconds (neighboursOf heads tails) heads tails limit plant width (freshAfter nodes (enteredBy plant [])) [] 0 0
+    firstOf (neighboursOf firsts seconds) firsts seconds (neighboursOf heads tails) heads tails limit plant nodes width

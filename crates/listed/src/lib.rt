@@ -5,14 +5,14 @@ ghost use Rattle.lists.specs.Lists.{hasAll};
 ghost use Rattle.costs.specs.Layouts.{mustRows};
 ghost use Rattle.network.specs.Answers.{openedOf};
 ghost use Rattle.network_file.specs.File.{networkOf};
-ghost use Rattle.paths.specs.Path.{keysOf, rowsIn};
+ghost use Rattle.paths.specs.Path.{keysOf, plantOf, rowsIn};
 ghost use Rattle.listed.specs.Listed.{firstFrom, listedCall};
 use ends::Rows;
 use network::Opened;
 use paths::Path;
 
-/// The first path that is grown with all must rows; `heads` and `tails` are their ends.
-pub fn first_path(
+// The first path that is grown with all must rows; `heads` and `tails` are their ends.
+fn first_path(
     firsts: &[u8],
     seconds: &[u8],
     heads: &[u8],
@@ -22,13 +22,11 @@ pub fn first_path(
     nodes: u64,
     width: usize,
 ) -> Path
-    ensures { λ r. ⌜ keysOf r ≡ firstFrom (now (firsts .entry)) (now (seconds .entry)) (now (heads .entry)) (now (tails .entry)) limit plant nodes width ⌝ }
+    ensures { λ r. ⌜ (plantOf r ≡ plant) × (keysOf r ≡ firstFrom (now (firsts .entry)) (now (seconds .entry)) (now (heads .entry)) (now (tails .entry)) limit plant nodes width) ⌝ }
 {
     let neighbours = spread::neighbours(firsts, seconds);
     let claims = spread::neighbours(heads, tails);
-    let start = Path::start(plant);
-    let fresh = grow::fresh_after(nodes, start);
-    grow::grown_with(
+    grow::first_path(
         &neighbours,
         firsts,
         seconds,
@@ -36,11 +34,9 @@ pub fn first_path(
         heads,
         tails,
         limit,
+        plant,
+        nodes,
         width,
-        fresh,
-        start,
-        0,
-        0,
     )
 }
 
@@ -80,7 +76,7 @@ pub fn listed(file: &[u8]) -> Opened
         nodes,
         width,
     );
-    if drawn::steps(path) != width {
+    if path.length() != width {
         return Opened::Refused(12);
     }
     if musts_on(file, path) {

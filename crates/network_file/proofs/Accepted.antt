@@ -98,7 +98,7 @@ kinds-length (b ∷ bs) t =
     one (some kind) s = refl
 
 -- a row that the network lacks has no costs
-past-costs : (f : List ℕ) (c r : ℕ) → sizesOf f .m ≤ r → costAt (networkOf f) c r ≡ 0
+pub past-costs : (f : List ℕ) (c r : ℕ) → sizesOf f .m ≤ r → costAt (networkOf f) c r ≡ 0
 past-costs f c r h = ap (λ (row : Row). getD (row .costs) c 0) (row-past f r h)
 
 -- a cost that a sound row has, or 0 where it has none

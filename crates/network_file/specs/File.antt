@@ -120,9 +120,12 @@ unfoldable pub lengthMet : List ℕ → Bool
 unfolding u32At
 lengthMet f = leb 9 (length f) && eqb (lengthField f) (length f - 5)
 
+abbrev pub sizesSound : Sizes → Bool
+sizesSound s = within 2 32 (s .n) && (within 0 256 (s .m) && within 1 4 (s .k))
+
 unfoldable pub sizesMet : List ℕ → Bool
 unfolding u16At
-sizesMet f = within 2 32 (sizesOf f .n) && (within 0 256 (sizesOf f .m) && within 1 4 (sizesOf f .k))
+sizesMet f = sizesSound (sizesOf f)
 
 unfoldable pub bodyMet : List ℕ → Bool
 unfolding u16At u32At stateWidth
@@ -163,10 +166,6 @@ fileChecks f =
     ∷ record { number = 7; met = costsMet f }
     ∷ record { number = 14; met = statesMet f }
     ∷ []
-
--- one of the checks by itself
-abbrev pub openIf : ℕ → Bool → List ℕ → Outcome Sizes
-openIf number met f = checked (record { number = number; met = met } ∷ []) (sizesOf f)
 
 -- Open.
 unfoldable pub openOf : List ℕ → Outcome Sizes

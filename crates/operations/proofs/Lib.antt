@@ -4,3 +4,4 @@ pub mod Costs
 pub mod Runs
 pub mod Exists
 pub mod Passing
+pub mod Picks

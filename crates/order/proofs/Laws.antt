@@ -9,9 +9,10 @@ use Rattle.checks.specs.Checks.{answered, refused}
 use Rattle.graph.specs.Paths.{pathIn}
 use Rattle.operations.specs.Operations.{orderCall, orderChecks, over}
 use Rattle.paths.specs.Path.{keysOf, rowsIn}
-use Rattle.drawn.specs.Answers.{drawnCall, drawnOf}
-use Rattle.drawn.specs.declared.DrawnAnswer.{DrawnAnswer}
+use Rattle.drawn.specs.Answers.{drawnCall}
 use Rattle.drawn.proofs.Answers.{Passed, answered-by, call-met, call-refused, call-short}
+use Rattle.tried.specs.Answers.{drawnOf}
+use Rattle.tried.specs.declared.DrawnAnswer.{DrawnAnswer}
 
 -- Once `drawn` has answered d
 

@@ -15,9 +15,10 @@ use Rattle.lists.specs.Lists.{pick, same}
 use Rattle.checks.proofs.Checks.{firstUnmet-append, firstUnmet-met, firstUnmet-unmet, met-all}
 use Rattle.checks.proofs.Ended.{ended-met, ended-unmet, firstUnmet-stops, unmet-parts}
 use Rattle.checks.specs.Checks.{Check, firstUnmet, refused}
-use Rattle.drawn.specs.Answers.{drawnCall, drawnOf}
+use Rattle.drawn.specs.Answers.{drawnCall}
 use Rattle.drawn.proofs.Answers.{answered-by, refused-by}
-use Rattle.drawn.specs.declared.DrawnAnswer.{DrawnAnswer}
+use Rattle.tried.specs.Answers.{drawnOf}
+use Rattle.tried.specs.declared.DrawnAnswer.{DrawnAnswer}
 use Rattle.graph.proofs.Minimal.{WellFormed}
 use Rattle.graph.proofs.PathOf.{pathOf-is, pathOf-only}
 use Rattle.graph.specs.Graph.{Graph, width}

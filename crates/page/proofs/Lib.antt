@@ -1,6 +1,5 @@
 pub mod Checks
 pub mod Filling
 pub mod Given
-pub mod Rows
 pub mod Steps
 pub mod Turns

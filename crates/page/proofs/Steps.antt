@@ -6,15 +6,15 @@ use Prim.Native.Nat.{_<_, _≤_, ℕ}
 use native.Mathlib.Omega.{arith}
 use lib.ListN.{getElem?, length}
 use Rattle.lists.proofs.Members.{_∈_}
+use Rattle.bounds.proofs.Missing.{rows-map}
 use Rattle.graph.proofs.Growth.{rowsOf, rowsOf-length, start}
 use Rattle.graph.proofs.Parts.{Part, first-in, part-length}
 use Rattle.graph.specs.Graph.{Graph, rowNumbers}
 use Rattle.graph.specs.Paths.{Key}
-use Rattle.grow.specs.Grow.{freshAfter}
-use Rattle.grow.specs.Musts.{growWith}
+use Rattle.grow.specs.Musts.{firstOf}
 use Rattle.pages.proofs.TreePages.{Starts, next-behind, none-behind}
 use Rattle.pages.specs.Pages.{behind, restAfter}
-use Rattle.paths.specs.Path.{enteredBy, keysOf, plantOf}
+use Rattle.paths.specs.Path.{keysOf}
 use Rattle.paths.specs.declared.Path.{Path}
 use Rattle.states.proofs.Beyond.{full-part}
 use Rattle.states.proofs.Full.{Full}
@@ -25,7 +25,6 @@ use Rattle.trace.specs.Trace.{traceOf}
 use Rattle.walk.proofs.Behind.{first-path, last-path, next-path}
 use Rattle.walk.specs.Walk.{afterOf}
 use Rattle.page.specs.Walkable.{Walkable, graphBy, listBy, rowsOpt}
-use Rattle.page.proofs.Rows.{rows-map}
 
 module _ {nb firsts seconds mustNb mustFirsts mustSeconds : List ℕ} {plant limit nodes wide : ℕ}
     (w : Walkable nb firsts seconds mustNb mustFirsts mustSeconds plant limit nodes wide) where
@@ -38,11 +37,11 @@ module _ {nb firsts seconds mustNb mustFirsts mustSeconds : List ℕ} {plant lim
   pub list-part : Part (graphBy firsts seconds plant limit nodes) (listBy firsts seconds mustFirsts plant limit nodes)
   list-part = with-part g (mustsOf mustFirsts)
 
-  first-is : rowsOpt (some (growWith nb firsts seconds mustNb mustFirsts mustSeconds limit plant wide (freshAfter nodes (enteredBy plant [])) [] 0 0)) ≡ getElem? L 0
+  first-is : rowsOpt (some (firstOf nb firsts seconds mustNb mustFirsts mustSeconds limit plant nodes wide)) ≡ getElem? L 0
   first-is =
-      let keys = growWith nb firsts seconds mustNb mustFirsts mustSeconds limit plant wide (freshAfter nodes (enteredBy plant [])) [] 0 0 in
+      let keys = firstOf nb firsts seconds mustNb mustFirsts mustSeconds limit plant nodes wide in
       let (full, first) = first-path (w .mustered) (w .fitted) (w .tree) (w .listed) in
-      ap some (rows-map keys) ∙ sym (first-in list-part (rowsOf keys) first)
+      ap some (sym (rows-map keys)) ∙ sym (first-in list-part (rowsOf keys) first)
 
   pub following-is : (p : List ℕ) → p ∈ listBy firsts seconds mustFirsts plant limit nodes
       → rowsOpt (afterOf nb firsts seconds mustNb mustFirsts mustSeconds limit plant nodes wide (traceOf firsts seconds plant p) (length p))
@@ -64,15 +63,14 @@ module _ {nb firsts seconds mustNb mustFirsts mustSeconds : List ℕ} {plant lim
           sym (none-behind list-part (rowsOf ks) m (last-path (w .mustered) (w .fitted) ks full (length p) all e))
       by ks full all (some ls) e =
           let m = with-of g (w .fitted .charted .formed) (mustsOf mustFirsts) ks full in
-          ap some (rows-map ls) ∙ sym (next-behind list-part (rowsOf ks) (rowsOf ls) m (next-path (w .mustered) (w .fitted) ks full (length p) all ls e))
+          ap some (sym (rows-map ls)) ∙ sym (next-behind list-part (rowsOf ks) (rowsOf ls) m (next-path (w .mustered) (w .fitted) ks full (length p) all ls e))
 
   -- from a start on
-  pub start-first : (start : List ℕ) (path first : Path) (fresh : ℕ) → length start ≤ 0 → (plantOf path ≡ plant) × (keysOf path ≡ [])
-      → fresh ≡ freshAfter nodes (enteredBy (plantOf path) (keysOf path))
-      → keysOf first ≡ growWith nb firsts seconds mustNb mustFirsts mustSeconds limit (plantOf path) wide fresh (keysOf path) 0 0
+  pub start-first : (start : List ℕ) (first : Path) → length start ≤ 0
+      → keysOf first ≡ firstOf nb firsts seconds mustNb mustFirsts mustSeconds limit plant nodes wide
       → rowsOpt (some (keysOf first)) ≡ getElem? (restAfter (listBy firsts seconds mustFirsts plant limit nodes) start) 0
-  start-first [] path first fresh none-given made clean grown = rw (grown, clean, made .0, made .1) first-is
-  start-first (r ∷ rs) path first fresh none-given made clean grown = absurd (omega arith)
+  start-first [] first none-given grown = rw grown first-is
+  start-first (r ∷ rs) first none-given grown = absurd (omega arith)
 
   pub start-following : (start : List ℕ) → 0 < length start → Starts (listBy firsts seconds mustFirsts plant limit nodes) start
       → rowsOpt (afterOf nb firsts seconds mustNb mustFirsts mustSeconds limit plant nodes wide (traceOf firsts seconds plant start) (length start))

@@ -5,7 +5,6 @@ ghost use Prim.Native.Nat.{_+_, _≤_};
 ghost use lib.ListN.{getElem?, length};
 ghost use lib.Seq.{paste};
 ghost use mathlib.Core.Option.{none};
-ghost use Rattle.lists.specs.Lists.{same};
 ghost use Rattle.checks.specs.Checks.{firstUnmet};
 ghost use Rattle.network_file.specs.File.{fileChecks, networkOf};
 ghost use Rattle.operations.specs.Operations.{pageCall, startChecks};
@@ -34,12 +33,9 @@ fn put(page: &mut [u16], at: usize, path: Path)
     requires { ⌜ at + length (rowsIn path) ≤ length (now page) ⌝ }
     ensures { λ _. ⌜ now (page .exit) ≡ paste (now (page .entry)) at (rowsIn path) (length (rowsIn path)) ⌝ }
 {
+    let rows = path.rows;
     let n = path.length();
-    let mut j: usize = 0;
-    while j < n {
-        page[at + j] = path.row_at(j);
-        j += 1;
-    }
+    copies::copy_rows(page, at, &rows[..n], n);
 }
 
 // The first path behind all that begin with the rows in these places, of those with all must rows: `heads` and `tails` are their ends, and `claims`
@@ -108,9 +104,7 @@ fn behind(
             start,
         );
     }
-    let path = Path::start(plant);
-    let fresh = grow::fresh_after(nodes, path);
-    let first = grow::grown_with(
+    let first = grow::first_path(
         neighbours,
         firsts,
         seconds,
@@ -118,11 +112,9 @@ fn behind(
         heads,
         tails,
         limit,
+        plant,
+        nodes,
         width,
-        fresh,
-        path,
-        0,
-        0,
     );
     Next {
         some: true,
@@ -229,23 +221,6 @@ fn list(
     )
 }
 
-// Whether these are the rows of the path, in its order.
-fn written(path: Path, rows: &[u16]) -> bool
-    ensures { λ r. ⌜ r ≡ same (rowsIn path) (now (rows .entry)) ⌝ }
-{
-    if path.length() != rows.len() {
-        return false;
-    }
-    let mut i: usize = 0;
-    while i < rows.len() {
-        if path.row_at(i) != rows[i] {
-            return false;
-        }
-        i += 1;
-    }
-    true
-}
-
 // The number of the first check of the start that is not met, of 8, 9, 10, 15 and 13; 0 where there is none.
 fn start_number(file: &[u8], start: &[u16]) -> u8
     ensures { λ r. ⌜ (firstUnmet (fileChecks (now (file .entry))) ≡ none → firstUnmet (startChecks (networkOf (now (file .entry))) (now (start .entry))) ≡ numbered r) ⌝ }
@@ -257,7 +232,7 @@ fn start_number(file: &[u8], start: &[u16]) -> u8
     if drawn.number != 0 {
         return drawn.number;
     }
-    if written(drawn.path, start) { 0 } else { 13 }
+    if drawn.path.is_written(start) { 0 } else { 13 }
 }
 
 // A refusal of Open, or of 12, as one of Page; only a refusal is asked.

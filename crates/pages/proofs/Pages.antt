@@ -6,17 +6,17 @@ use mathlib.Core.Bool.{Bool, false, true}
 use mathlib.Core.Option.{Option, Option·none-ne-some, Option·some-injective, Option·some-ne-none, none, some}
 use mathlib.Core.List.{List, [], _++_, _∷_, append-assoc, append-nil, List·Memᴰ·head as here, map, List·Memᴰ·cases-cons as mem-cases, Memᴰ·cast as mem-cast, List·Memᴰ·not-nil as mem-nil, List·Memᴰ·tail as there}
 use Prim.Native.Nat.{_*_, _+_, _/_, _<_, _≤_, min, suc, zero, ℕ}
-use native.Mathlib.Nat.{add-assoc, add-zero, div-eq-of-lt, div-mul-le-self, le-trans, min-zero, mul-le-mul-right, zero-add}
+use native.Mathlib.Nat.{add-assoc, add-zero, div-eq-of-lt, div-mul-le-self, le-trans, min-zero, mul-le-mul-right, suc-mul, zero-add, zero-mul}
 use native.Mathlib.Omega.{arith}
 use lib.Dec.{T, ltb, ltb→lt, lt→ltb}
-use lib.ListN.{drop, getElem?, length, length-append, length-drop, length-take, take}
-use lib.Seq.{drop-at, take-add, take-at}
+use lib.ListN.{drop, getD, getElem?, length, length-append, length-drop, length-take, take}
+use lib.Seq.{drop-at, drop-drop, take-add, take-at}
 use borrow.Author.Tests.{ltb-true}
 use Rattle.lists.specs.Lists.{pick, same, sum}
 use Rattle.lists.proofs.Ascending.{at-mem}
 use Rattle.lists.proofs.Distinct.{Distinct}
 use Rattle.lists.proofs.Members.{_∈_, drop-out, same-in, same-out, take-out}
-use Rattle.lists.proofs.Tests.{T-false, T-same, T-true}
+use Rattle.lists.proofs.Tests.{T-false, T-same, T-true, pick-elim}
 use Rattle.pages.specs.Pages.{Mark, answer, behind, call, flat, lastOf, markOf, moreAfter, pageAfter, pageCount, pieces, readBack, restAfter, room, run}
 
 -- what stands behind the tree at place i is the list from place i + 1 on
@@ -45,8 +45,17 @@ pieces-flat w (p ∷ l) behind long =
     rw (append-assoc, take-at p (flat l ++ behind) w (long p (here refl)), drop-at p (flat l ++ behind) w (long p (here refl)))
     (ap (λ l. p ∷ l) (pieces-flat w l behind (λ q m. long q (there m))))
 
+-- the piece at a place, where it is among the first n
+pub pieces-at : (w n : ℕ) (page : List ℕ) (t : ℕ) → t < n → getD (pieces w n page) t [] ≡ take w (drop (t * w) page)
+unfolding pieces
+pieces-at w zero page t h = absurd (omega arith)
+pieces-at w (suc n) page zero h = rw (zero-mul w) refl
+pieces-at w (suc n) page (suc t) h =
+    let next : w + t * w ≡ suc t * w = omega (arith, suc-mul t w) in
+    pieces-at w n (drop w page) t (omega arith) ∙ ap (take w) (drop-drop (t * w) w page ∙ ap (λ (k : ℕ). drop k page) next)
+
 -- how many numbers trees of w rows have
-length-flat : (w : ℕ) (l : List (List ℕ)) → ((p : List ℕ) → p ∈ l → length p ≡ w) → length (flat l) ≡ length l * w
+pub length-flat : (w : ℕ) (l : List (List ℕ)) → ((p : List ℕ) → p ∈ l → length p ≡ w) → length (flat l) ≡ length l * w
 unfolding flat
 length-flat w [] long = omega arith
 length-flat w (p ∷ l) long = omega (arith, length-append p (flat l), long p (here refl), length-flat w l (λ q m. long q (there m)))
@@ -64,6 +73,16 @@ length-pageAfter w page rest long =
     let written : length (flat (take c rest)) ≡ c * w = length-flat w (take c rest) (λ p m. long p (take-out c rest m)) ∙ ap (λ n. n * w) count in
     let fits = rows-end c w (length page) (omega arith) in
     simp (length-append, length-drop, written) (omega arith)
+
+-- what is left from a start on is of the list
+behind-out : (p : List ℕ) {q : List ℕ} (L : List (List ℕ)) → q ∈ behind p L → q ∈ L
+unfolding behind
+behind-out p [] m = m
+behind-out p {q} (x ∷ L) m = pick-elim (λ (l : List (List ℕ)). q ∈ l → q ∈ x ∷ L) (same p x) (λ t i. there i) (λ n i. there (behind-out p L i)) m
+
+pub rest-out : (L : List (List ℕ)) (start : List ℕ) {q : List ℕ} → q ∈ restAfter L start → q ∈ L
+rest-out L [] m = m
+rest-out L (x ∷ p) m = behind-out (x ∷ p) L m
 
 -- a start that is a tree
 pub restAfter-behind : (L : List (List ℕ)) (p : List ℕ) → 0 < length p → restAfter L p ≡ behind p L

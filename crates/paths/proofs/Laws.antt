@@ -9,7 +9,7 @@ use native.Mathlib.Numerals.{add-one}
 use native.Mathlib.Omega.{arith}
 use borrow.Author.Tests.{le-ltb, lt-ltb}
 use Rattle.graph.specs.Paths.{Key}
-use Rattle.paths.specs.Path.{enteredBy, extendedBy, keysFrom, keysOf, lengthOf, noKey, nodesOf, plantOf}
+use Rattle.paths.specs.Path.{enteredBy, extendedBy, keysFrom, keysOf, lengthOf, noKey, nodesOf, plantOf, rowsIn}
 use Rattle.paths.specs.declared.Path.{Path}
 
 -- Three lists side by side
@@ -145,3 +145,10 @@ module _ (p : Path) (nodes : length (p .nodes) ≡ 32) (rows : length (p .rows) 
 
   pub entered-at : (i : ℕ) → i ≤ lengthOf p → getD (p .nodes) i 0 ≡ getD (enteredBy (plantOf p) (keysOf p)) i 0
   entered-at i h = sym (getD-take (lengthOf p + 1) (p .nodes) i 0 (omega arith)) ∙ ap (λ (l : List ℕ). getD l i 0) entered-is
+
+-- the rows of a path: how many they are, and one after the other
+pub rows-long : (p : Path) → length (p .nodes) ≡ 32 → length (p .rows) ≡ 31 → length (p .pivots) ≡ 31 → length (rowsIn p) ≡ lengthOf p
+rows-long p nodes rows pivots = length-map (keysOf p) (λ (k : Key). k .row) ∙ keys-length p nodes rows pivots
+
+pub row-is : (p : Path) (i : ℕ) → getD (keysOf p) i noKey .row ≡ getD (rowsIn p) i 0
+row-is p i = sym (List·getD-map (λ (k : Key). k .row) (keysOf p) i noKey)

@@ -3,7 +3,8 @@
 ghost use mathlib.Core.Path.{_≡_};
 ghost use mathlib.Core.List.{[]};
 ghost use lib.ListN.{getD, take};
-ghost use Rattle.paths.specs.Path.{enteredBy, extendedBy, keysOf, lengthOf, noKey, plantOf};
+ghost use Rattle.lists.specs.Lists.{same};
+ghost use Rattle.paths.specs.Path.{enteredBy, extendedBy, keysOf, lengthOf, noKey, plantOf, rowsIn};
 
 /// A path of at most 31 steps.
 pub struct Path {
@@ -89,5 +90,22 @@ impl Path {
     {
         let n = self.length();
         if i < n { self.rows[i] } else { 0 }
+    }
+
+    /// Whether these are its rows, in its order.
+    pub fn is_written(self, rows: &[u16]) -> bool
+        ensures { λ r. ⌜ r ≡ same (rowsIn self) (now (rows .entry)) ⌝ }
+    {
+        if self.length() != rows.len() {
+            return false;
+        }
+        let mut i: usize = 0;
+        while i < rows.len() {
+            if self.row_at(i) != rows[i] {
+                return false;
+            }
+            i += 1;
+        }
+        true
     }
 }

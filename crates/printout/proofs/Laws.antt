@@ -6,8 +6,7 @@ use native.Mathlib.Numerals.{add-one}
 use native.Mathlib.Omega.{arith}
 use lib.ListN.{getD, length, length-append, length-set, length-take, set, take}
 use lib.Seq.{take-all, take-append-add, take-nil, take-suc, take-suc-set}
-use Rattle.io.specs.Digits.{Fewest, digits}
-use Rattle.printout.specs.Line.{Numbered, shown}
+use Rattle.printout.specs.Line.{filled, shown}
 use Rattle.printout.specs.declared.Line.{Line}
 
 -- the first i bytes stand behind what the line showed before, up to the place `at`
@@ -19,7 +18,7 @@ pub record Putting (bytes : List ℕ) (before now : Line) (at i : ℕ) : Type 0 
   pub holds : take at (now .bytes) ≡ shown before ++ take i bytes
 
 module _ {bytes : List ℕ} {before : Line} where
-  pub none-yet : {at : ℕ} → length (before .bytes) ≡ 512 → at ≡ min (before .len) 512 → Putting bytes before before at 0
+  pub none-yet : {at : ℕ} → length (before .bytes) ≡ 512 → at ≡ filled before → Putting bytes before before at 0
   none-yet {at} long e = record {
     long = long;
     room = omega arith;
@@ -65,16 +64,10 @@ cut-twice k [] b = rw take-nil
 cut-twice zero (x ∷ a) b = refl
 cut-twice (suc k) (x ∷ a) b = ap (λ (l : List ℕ). x ∷ l) (cut-twice k a b)
 
--- a space, and then the digits
-pub numbered : (before spaced after : Line) (out : List ℕ) (n k : ℕ) → Fewest 10 1 n k → out ≡ digits 10 k n
-    → shown spaced ≡ take 512 (shown before ++ (32 ∷ [])) → shown after ≡ take 512 (shown spaced ++ out) → Numbered (shown before) n (shown after)
-numbered before spaced after out n k fewest e space behind = record {
-  places = k;
-  fewest = fewest;
-  holds =
-      behind
-      ∙ ap (λ (l : List ℕ). take 512 (l ++ out)) space
-      ∙ cut-twice 512 (shown before ++ (32 ∷ [])) out
-      ∙ ap (λ (l : List ℕ). take 512 l) (append-assoc (shown before) (32 ∷ []) out)
-      ∙ ap (λ (l : List ℕ). take 512 (shown before ++ (32 ∷ l))) e;
-}
+-- what is put behind in two parts is put behind at once
+pub behind : (before : List ℕ) {between after : List ℕ} (a b : List ℕ) → between ≡ take 512 (before ++ a) → after ≡ take 512 (between ++ b) → after ≡ take 512 (before ++ (a ++ b))
+behind before a b first second =
+    second
+    ∙ ap (λ (l : List ℕ). take 512 (l ++ b)) first
+    ∙ cut-twice 512 (before ++ a) b
+    ∙ ap (λ (l : List ℕ). take 512 l) (append-assoc before a b)

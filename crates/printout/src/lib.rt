@@ -1,23 +1,15 @@
 //! Lines of the printout: words and numbers parted by single spaces, in a buffer of the line's own.
 //! The longest line has under 250 bytes: a tree of 31 rows with four costs.
 ghost use mathlib.Core.Path.{_≡_};
-ghost use mathlib.Core.List.{_++_, []};
-ghost use Prim.Native.Nat.{min};
+ghost use mathlib.Core.List.{_++_, _∷_, []};
 ghost use lib.ListN.{take};
-ghost use Rattle.printout.specs.Line.{Numbered, shown};
-use libc::STDOUT_FILENO;
+ghost use Rattle.io.specs.Counts.{Counts};
+ghost use Rattle.printout.specs.Line.{decimalOf, filled, numbersOf, shown};
 
 /// A line that is being written.
 pub struct Line {
     pub bytes: [u8; 512],
     pub len: usize,
-}
-
-// How many places of a line are filled, where its length says so many.
-fn filled(len: usize) -> usize
-    ensures { λ r. ⌜ r ≡ min len 512 ⌝ }
-{
-    if len < 512 { len } else { 512 }
 }
 
 impl Line {
@@ -31,11 +23,20 @@ impl Line {
         }
     }
 
+    /// How many of the line's places are filled. That they are places of it is said for a caller that lends them.
+    pub fn length(self) -> usize
+        ensures { λ r. ⌜ r ≡ filled self ⌝ }
+        ensures { λ r. ⌜ Counts r (self .bytes) ⌝ }
+    {
+        let len = self.len;
+        if len < 512 { len } else { 512 }
+    }
+
     /// The line with these bytes behind, as far as they fit.
     pub fn text(mut self, bytes: &[u8]) -> Line
         ensures { λ l. ⌜ shown l ≡ take 512 (shown self ++ now (bytes .entry)) ⌝ }
     {
-        let mut at = filled(self.len);
+        let mut at = self.length();
         let mut i: usize = 0;
         while i < bytes.len() && at < 512 {
             self.bytes[at] = bytes[i];
@@ -46,9 +47,16 @@ impl Line {
         self
     }
 
+    /// The line with a line feed behind, if it fits.
+    pub fn ended(self) -> Line
+        ensures { λ l. ⌜ shown l ≡ take 512 (shown self ++ (10 ∷ [])) ⌝ }
+    {
+        self.text(b"\n")
+    }
+
     /// The line with a space and the number's decimal digits behind, as far as they fit.
     pub fn number(self, n: u64) -> Line
-        ensures { λ l. ⌜ Numbered (shown self) n (shown l) ⌝ }
+        ensures { λ l. ⌜ shown l ≡ take 512 (shown self ++ (32 ∷ decimalOf n)) ⌝ }
     {
         let mut digits = [0u8; 20];
         let k = io::decimal(n, &mut digits);
@@ -56,16 +64,42 @@ impl Line {
         line.text(&digits[..k])
     }
 
-    // Writes the line as it is to the standard output.
-    fn put(self) -> bool {
-        let bytes = self.bytes;
-        let n = filled(self.len);
-        io::write_all(STDOUT_FILENO, &bytes[..n])
+    /// The line with these rows behind.
+    pub fn rows(self, rows: &[u16]) -> Line
+        ensures { λ l. ⌜ shown l ≡ take 512 (shown self ++ numbersOf (now (rows .entry))) ⌝ }
+    {
+        let mut line = self;
+        let mut i: usize = 0;
+        while i < rows.len() {
+            line = line.number(rows[i] as u64);
+            i += 1;
+        }
+        line
     }
 
-    /// Writes the line and a line feed to the standard output; answers whether all of it was written.
-    pub fn write(self) -> bool {
-        let line = self.text(b"\n");
-        line.put()
+    /// The line with these costs behind.
+    pub fn costs(self, costs: &[u32]) -> Line
+        ensures { λ l. ⌜ shown l ≡ take 512 (shown self ++ numbersOf (now (costs .entry))) ⌝ }
+    {
+        let mut line = self;
+        let mut i: usize = 0;
+        while i < costs.len() {
+            line = line.number(costs[i] as u64);
+            i += 1;
+        }
+        line
+    }
+
+    /// The line with the first k costs of a vector behind; it has four.
+    pub fn vector(self, vector: [u64; 4], k: usize) -> Line
+        ensures { λ l. ⌜ shown l ≡ take 512 (shown self ++ numbersOf (take k vector)) ⌝ }
+    {
+        let mut line = self;
+        let mut i: usize = 0;
+        while i < k && i < 4 {
+            line = line.number(vector[i]);
+            i += 1;
+        }
+        line
     }
 }

@@ -13,8 +13,8 @@ pub enum ReachAnswer {
     Refused(u8),
 }
 
-/// The nodes that rows join to the plant, and the plant, as a word of crate words.
-pub fn reached_word(firsts: &[u8], seconds: &[u8], limit: u8, plant: u8, nodes: u64) -> u64
+// The nodes that rows join to the plant, and the plant, as a word of crate words.
+fn reached_word(firsts: &[u8], seconds: &[u8], limit: u8, plant: u8, nodes: u64) -> u64
     ensures { λ r. ⌜ r ≡ reachedWord (now (firsts .entry)) (now (seconds .entry)) limit plant nodes ⌝ }
 {
     let neighbours = spread::neighbours(firsts, seconds);

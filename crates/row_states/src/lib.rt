@@ -23,9 +23,9 @@ fn among(rows: &[u16], row: u16) -> bool
 fn dug(file: &[u8], rows: &[u16], row: u16) -> bool
     ensures { λ r. ⌜ r ≡ pick (mustAt (networkOf (now (file .entry))) row) (member row (now (rows .entry))) true ⌝ }
 {
-    let at = network::row_at(file, row as usize);
+    let at = fields::row_at(file, row as usize);
     let state = at.state;
-    if network::is_must(state) {
+    if fields::is_must(state) {
         among(rows, row)
     } else {
         true
@@ -36,7 +36,7 @@ fn dug(file: &[u8], rows: &[u16], row: u16) -> bool
 pub fn musts_dug(file: &[u8], rows: &[u16]) -> bool
     ensures { λ r. ⌜ r ≡ hasAll (mustRows (networkOf (now (file .entry)))) (now (rows .entry)) ⌝ }
 {
-    let header = network::header_of(file);
+    let header = fields::header_of(file);
     let m = header.m;
     let mut r: u16 = 0;
     while r < m {
@@ -52,9 +52,9 @@ pub fn musts_dug(file: &[u8], rows: &[u16]) -> bool
 fn unbarred(file: &[u8], row: u16) -> bool
     ensures { λ r. ⌜ r ≡ not (barredAt (networkOf (now (file .entry))) row) ⌝ }
 {
-    let at = network::row_at(file, row as usize);
+    let at = fields::row_at(file, row as usize);
     let state = at.state;
-    !network::is_barred(state)
+    !fields::is_barred(state)
 }
 
 // Whether none of the rows is barred.

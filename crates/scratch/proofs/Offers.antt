@@ -4,13 +4,12 @@ use mathlib.Core.Bool.{false, true}
 use mathlib.Core.List.{List}
 use Prim.Native.Nat.{_*_, _+_, _/_, _<_, _≤_, suc, ℕ}
 use native.Mathlib.Nat.{suc-mul}
-use native.Mathlib.Omega.{arith}
 use lib.ListN.{length}
 use borrow.Author.Tests.{eq-eqb, le-leb, le-ltb, lt-leb, lt-ltb, ne-eqb}
 use Rattle.pages.proofs.Pages.{rows-end}
 use Rattle.tables.specs.Tables.{below}
+use Rattle.compare.specs.Compare.{metIn}
 use Rattle.table.specs.Enter.{EnterEnd, enterCall}
-use Rattle.table.specs.Parts.{metIn}
 use Rattle.scratch.specs.Scratch.{Offered, boundIn, offerOf, offered}
 use Rattle.scratch.specs.declared.Scratch.{Scratch}
 

@@ -8,8 +8,8 @@ use lib.Dec.{eqb, leb, ltb}
 use lib.ListN.{drop, length, take}
 use Rattle.lists.specs.Lists.{pick}
 use Rattle.tables.specs.Tables.{Table, below}
+use Rattle.compare.specs.Compare.{metIn}
 use Rattle.table.specs.Enter.{EnterEnd, Entering, Row, enterCall, entered, filled, full, met, unfit}
-use Rattle.table.specs.Parts.{metIn}
 use Rattle.scratch.specs.declared.Scratch.{Scratch}
 
 -- how the table stands, and its places, after an offer

@@ -5,7 +5,6 @@ ghost use mathlib.Core.Path.{_≡_};
 ghost use Prim.Native.Nat.{_*_, _+_, _≤_};
 ghost use lib.ListN.{length};
 ghost use Rattle.table.specs.Answers.{enteringOf};
-ghost use Rattle.table.specs.Parts.{metIn};
 ghost use Rattle.tables.specs.Tables.{below};
 ghost use Rattle.scratch.specs.Scratch.{boundIn, offerOf, settled};
 use table::Entered;
@@ -14,24 +13,6 @@ use table::Entered;
 pub struct Scratch {
     pub count: usize,
     pub bounded: bool,
-}
-
-// Whether one of the first rows equals or dominates the vector.
-fn meets(costs: &[u32], count: usize, vector: &[u32]) -> bool
-    requires { ⌜ count * length (now vector) ≤ length (now costs) ⌝ }
-    ensures { λ r. ⌜ r ≡ metIn (now (costs .entry)) count (now (vector .entry)) ⌝ }
-{
-    let k = vector.len();
-    let mut i: usize = 0;
-    while i < count {
-        let from = i * k;
-        let end = from + k;
-        if table::none_larger(&costs[from..end], vector) {
-            return true;
-        }
-        i += 1;
-    }
-    false
 }
 
 // Whether the vector is below the bound.
@@ -43,7 +24,7 @@ fn is_below(costs: &[u32], rows: usize, bounded: bool, vector: &[u32]) -> bool
     if bounded {
         let from = rows * k;
         let end = from + k;
-        return table::less(vector, &costs[from..end]);
+        return compare::less(vector, &costs[from..end]);
     }
     true
 }
@@ -96,7 +77,7 @@ pub fn offer(
         return scratch;
     }
     if is_below(costs, rows, scratch.bounded, vector) {
-        if meets(known, count, vector) {
+        if compare::meets(known, count, vector) {
             return scratch;
         }
         let entered = table::enter(costs, witnesses, scratch.count, vector, path);

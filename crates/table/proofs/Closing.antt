@@ -6,15 +6,16 @@ use Prim.Native.Nat.{_*_, _+_, _<_, _≤_, ℕ}
 use native.Mathlib.Nat.{mul-le-mul-right}
 use native.Mathlib.Omega.{arith}
 use lib.ListN.{drop, length}
-use lib.Seq.{paste}
 use Rattle.lists.specs.Lists.{filterB}
 use Rattle.lists.proofs.Members.{length-snoc}
 use Rattle.costs.specs.Costs.{dominates}
 use Rattle.pages.specs.Pages.{flat, pieces}
+use Rattle.compare.proofs.Rows.{row-ends, rowAt}
+use Rattle.copies.specs.Copies.{moved}
+use Rattle.copies.proofs.Moves.{moved-all}
 use Rattle.table.specs.Enter.{Row, beside, filled}
 use Rattle.table.specs.Parts.{Closed, staying}
-use Rattle.table.proofs.Filled.{Wide, filled-more, gone, over-more, over-past, pathOf, paths-are, stays, vectorOf, vectors-are, wide-staying}
-use Rattle.table.proofs.Rows.{row-ends, rowAt}
+use Rattle.table.proofs.Filled.{Wide, filled-more, gone, over-behind, over-more, pathOf, paths-are, stays, vectorOf, vectors-are, wide-staying}
 
 -- the rows that stay of the first i
 abbrev pub stayed : List ℕ → List ℕ → List ℕ → ℕ → ℕ → List Row
@@ -73,7 +74,7 @@ module _ {v c p : List ℕ} {w count i n : ℕ} {c′ p′ : List ℕ} (at : Clo
   below k = mul-le-mul-right k (omega (arith, at .few, at .closed .count-is))
 
   row-there : drop (i * length v) c′ ≡ drop (i * length v) c
-  row-there = rw (at .closed .costs-are) (over-past vectorOf (length v) old c wide (i * length v) (below (length v)))
+  row-there = rw (at .closed .costs-are) (over-behind vectorOf (length v) old c wide (i * length v) (below (length v)))
 
   abbrev row : Row
   row = record { vector = rowAt (length v) c i; path = rowAt w p i }
@@ -90,7 +91,7 @@ module _ {v c p : List ℕ} {w count i n : ℕ} {c′ p′ : List ℕ} (at : Clo
       }
 
   pub closing-stays : {c″ p″ : List ℕ} → dominates v (rowAt (length v) c′ i) ≡ false
-      → c″ ≡ paste c′ (n * length v) (drop (i * length v) c′) (length v) → p″ ≡ paste p′ (n * w) (drop (i * w) p′) w
+      → c″ ≡ moved c′ (i * length v) (n * length v) (length v) → p″ ≡ moved p′ (i * w) (n * w) w
       → length c″ ≡ length c′ → length p″ ≡ length p′ → Closing v c p w count (i + 1) (n + 1) c″ p″
   closing-stays e ec ep lc lp =
       let next : stayed v c p w (i + 1) ≡ old ++ (row ∷ []) = rw (filled-more (length v) w c p i) (stays v (filled (length v) w i c p) row (rw row-there at e)) in
@@ -101,7 +102,7 @@ module _ {v c p : List ℕ} {w count i n : ℕ} {c′ p′ : List ℕ} (at : Clo
         witnesses-long = lp ∙ at .witnesses-long;
         closed = record {
           count-is = rw next (omega (arith, length-snoc old row, at .closed .count-is));
-          costs-are = ec ∙ (rw (next, at .closed .costs-are, at .closed .count-is) (over-more vectorOf (length v) old c wide row (i * length v) ends (below (length v)) refl));
-          witnesses-are = ep ∙ (rw (next, at .closed .witnesses-are, at .closed .count-is) (over-more pathOf w old p wide′ row (i * w) ends′ (below w) refl));
+          costs-are = ec ∙ moved-all c′ _ _ _ (bounds .costs-below) (bounds .costs-end) ∙ (rw (next, at .closed .costs-are, at .closed .count-is) (over-more vectorOf (length v) old c wide row (i * length v) ends (below (length v)) refl));
+          witnesses-are = ep ∙ moved-all p′ _ _ _ (bounds .witnesses-below) (bounds .witnesses-end) ∙ (rw (next, at .closed .witnesses-are, at .closed .count-is) (over-more pathOf w old p wide′ row (i * w) ends′ (below w) refl));
         };
       }

@@ -1,6 +1,5 @@
 -- The answers of entering: unfit, met, full, and the row inserted among those that stay.
 use mathlib.Core.Path.{_∙_, _≡_, ap, refl, sym}
-use mathlib.Core.Logic.{⊎-elim}
 use mathlib.Core.Bool.{Bool, false, not, true}
 use mathlib.Core.List.{List, [], _++_, _∷_, map}
 use Prim.Native.Nat.{_*_, _+_, _<_, _≤_, suc, ℕ}
@@ -9,18 +8,20 @@ use native.Mathlib.Omega.{arith}
 use borrow.Author.Tests.{eq-eqb, le-ltb, lt-ltb, ne-eqb}
 use lib.ListN.{drop, length, take}
 use Rattle.lists.specs.Lists.{any, filterB, insert, keepIf, pick}
-use Rattle.lists.proofs.Members.{_∈_, filter-length}
-use Rattle.lists.proofs.Orders.{insert-length, insert-out}
+use Rattle.lists.proofs.Members.{filter-length}
+use Rattle.lists.proofs.Orders.{insert-length}
 use Rattle.lists.proofs.Tests.{pick-elim}
 use Rattle.lists.proofs.Maps.{map-any}
 use Rattle.costs.specs.Costs.{dominates, noneLarger, vectorLess}
 use Rattle.pages.specs.Pages.{capacity}
 use Rattle.pages.proofs.Pages.{rows-end}
-use Rattle.tables.specs.Tables.{replaced}
-use Rattle.table.specs.Enter.{Row, costsOver, enterCall, entered, filled, full, met, unfit, witnessesOver}
-use Rattle.table.specs.Parts.{Closed, before, inserted, metIn, placeIn, staying}
+use Rattle.compare.specs.Compare.{metIn}
+use Rattle.copies.specs.Copies.{inserted}
+use Rattle.copies.proofs.Moves.{inserted-all}
+use Rattle.table.specs.Enter.{Row, enterCall, entered, filled, full, met, unfit}
+use Rattle.table.specs.Parts.{Closed, before, placeIn, staying}
 use Rattle.table.proofs.Closing.{Bounds}
-use Rattle.table.proofs.Filled.{Wide, filled-length, filled-over, over, over-insert, over-long, over-read, over-whole, pathOf, paths-are, vectorOf, vectors-are, wide-staying}
+use Rattle.table.proofs.Filled.{Wide, filled-length, over, over-insert, over-long, over-read, over-whole, pathOf, paths-are, vectorOf, vectors-are, wide-staying}
 
 -- The place of insertion
 
@@ -135,23 +136,30 @@ module _ {c p : List ℕ} {count : ℕ} {v q : List ℕ} (fit : Fit c p count v 
     place-le = rw (place-is, closed .count-is) (before-le (λ r. earlier r entry) stay)
 
     -- where there is room for a row more, it lies within both tables, and its place not behind it
-    pub row-fits : n < capacity k w c p → length c′ ≡ length c → length p′ ≡ length p → Bounds k w n place (length c′) (length p′)
-    row-fits h lc lp = record {
-      costs-end = omega (arith, suc-mul n k, costs-fit (suc n) h);
-      witnesses-end = omega (arith, suc-mul n w, witnesses-fit (suc n) h);
-      costs-below = mul-le-mul-right k place-le;
-      witnesses-below = mul-le-mul-right w place-le;
-    }
+    pub row-fits : n < capacity k w c p → Bounds k w n place (length c′) (length p′)
+    row-fits h =
+        let costs = costs-fit (suc n) h in
+        let witnesses = witnesses-fit (suc n) h in
+        let few : n ≡ length stay = closed .count-is in
+        let same-costs : length c′ ≡ length c = ap length (closed .costs-are) ∙ over-long vectorOf k stay c wide (rw (← few) (omega (arith, suc-mul n k))) in
+        let same-witnesses : length p′ ≡ length p = ap length (closed .witnesses-are) ∙ over-long pathOf w stay p wide′ (rw (← few) (omega (arith, suc-mul n w))) in
+        record {
+          costs-end = omega (arith, suc-mul n k);
+          witnesses-end = omega (arith, suc-mul n w);
+          costs-below = mul-le-mul-right k place-le;
+          witnesses-below = mul-le-mul-right w place-le;
+        }
 
     new-long : length new ≡ suc n
     new-long = insert-length earlier entry stay ∙ ap suc (sym (closed .count-is))
 
     -- a table that is closed up, with the row inserted
-    inserted-is : (f : Row → List ℕ) (m : ℕ) (t t′ : List ℕ) → Wide f m stay → length (f entry) ≡ m → t′ ≡ over f stay t
+    inserted-is : (f : Row → List ℕ) (m : ℕ) (t t′ : List ℕ) → Wide f m stay → length (f entry) ≡ m → t′ ≡ over f stay t → place * m ≤ n * m → n * m + m ≤ length t′
         → inserted t′ (place * m) (n * m) (f entry) ≡ over f new t
-    inserted-is f m t t′ h e o =
+    inserted-is f m t t′ h e o order room =
         let at = insert-at earlier entry stay in
-        rw (place-is, o, closed .count-is, at) (over-insert f m stay t h entry _ e (before-le (λ r. earlier r entry) stay))
+        inserted-all t′ (place * m) (n * m) (f entry) order (omega arith)
+        ∙ (rw (place-is, o, closed .count-is, at) (over-insert f m stay t h entry _ e (before-le (λ r. earlier r entry) stay)))
 
     module _ (unmet : metIn c count v ≡ false) where
       -- no row went, and the tables are as they were
@@ -169,26 +177,10 @@ module _ {c p : List ℕ} {count : ℕ} {v q : List ℕ} (fit : Fit c p count v 
       unfolding enterCall staying
       enter-rows h =
           let a : n + 1 ≡ length new = omega (arith, new-long) in
-          rw (inserted-is vectorOf k c c′ wide refl (closed .costs-are), inserted-is pathOf w p p′ wide′ refl (closed .witnesses-are), a)
+          let fits = row-fits h in
+          rw (
+            inserted-is vectorOf k c c′ wide refl (closed .costs-are) (fits .costs-below) (fits .costs-end),
+            inserted-is pathOf w p p′ wide′ refl (closed .witnesses-are) (fits .witnesses-below) (fits .witnesses-end),
+            a,
+          )
           (simp (ne-eqb _ _ (fit .some-costs), ne-eqb _ _ (fit .some-rows), le-ltb _ _ (fit .enough), met-is ∙ unmet, le-ltb (capacity k w c p) (length new) (omega (arith, new-long))))
-
-  -- What a caller finds in the tables: the rows of the definition, and as many places as before
-
-  wide-new : (f : Row → List ℕ) (m : ℕ) → Wide f m stay → length (f entry) ≡ m → Wide f m new
-  wide-new f m h e r i =
-      ⊎-elim (λ (q : r ≡ entry). rw q e) (λ (i : r ∈ stay). h r i) (insert-out earlier stay i)
-
-  abbrev pub after : List Row
-  after = replaced vectorOf rows entry
-
-  pub after-filled : filled k w (length after) (costsOver after c) (witnessesOver after p) ≡ after
-  unfolding staying
-  after-filled = filled-over k w new c p (wide-new vectorOf k wide refl) (wide-new pathOf w wide′ refl)
-
-  pub after-costs : length after ≤ capacity k w c p → length (costsOver after c) ≡ length c
-  unfolding staying
-  after-costs h = over-long vectorOf k new c (wide-new vectorOf k wide refl) (costs-fit (length new) h)
-
-  pub after-witnesses : length after ≤ capacity k w c p → length (witnessesOver after p) ≡ length p
-  unfolding staying
-  after-witnesses h = over-long pathOf w new p (wide-new pathOf w wide′ refl) (witnesses-fit (length new) h)

@@ -1,47 +1,38 @@
 -- The filled rows of both tables, one row more of them, those that stay, and a table once given rows stand in its first places.
 use mathlib.Core.Path.{_∙_, _≡_, ap, refl, sym}
 use mathlib.Core.Bool.{Bool, false, not, true}
-use mathlib.Core.List.{List, [], _++_, _∷_, append-assoc, append-nil, List·Memᴰ·head as here, map, Memᴰ·map as map-in, Memᴰ·of-map as map-out, List·Memᴰ·not-nil as mem-nil, List·Memᴰ·tail as there}
+use mathlib.Core.List.{List, [], _++_, _∷_, append-assoc, append-nil, map, map-append, Memᴰ·map as map-in, Memᴰ·of-map as map-out}
 use Prim.Native.Nat.{_*_, _+_, _-_, _≤_, suc, zero, ℕ}
 use native.Mathlib.Nat.{add-comm, add-sub-cancel-left, suc-mul, zero-mul}
 use native.Mathlib.Numerals.{add-one}
 use native.Mathlib.Omega.{arith}
 use lib.ListN.{drop, length, length-append, length-drop, length-map, length-take, take, take-append-drop}
-use lib.Seq.{drop-append-add, drop-drop, length-take-le, paste, take-add, take-at}
+use lib.Seq.{drop-drop, length-take-le, paste, take-at}
 use Rattle.lists.specs.Lists.{filterB, keepIf}
-use Rattle.lists.proofs.Members.{_∈_, filter-out, mem-elim, take-out}
+use Rattle.lists.proofs.Members.{filter-out, take-out}
+use Rattle.lists.proofs.Maps.{map-take}
 use Rattle.costs.specs.Costs.{dominates}
+use Rattle.costs.proofs.Fronts.{Sized}
 use Rattle.pages.specs.Pages.{flat, pieces}
 use Rattle.pages.proofs.Pages.{pieces-flat}
+use Rattle.passes.proofs.Flat.{flat-append, flat-long, flat-pieces, over-past, pieces-long}
+use Rattle.compare.proofs.Rows.{rowAt}
+use Rattle.copies.specs.Copies.{between}
+use Rattle.copies.proofs.Moves.{insert-between}
 use Rattle.table.specs.Enter.{Row, beside, filled}
-use Rattle.table.specs.Parts.{inserted, staying}
-use Rattle.table.proofs.Places.{insert-between}
-use Rattle.table.proofs.Rows.{rowAt}
+use Rattle.table.specs.Parts.{staying}
 
 -- Pieces of k places each
 
 pieces-snoc : (k n : ℕ) (t : List ℕ) → pieces k (suc n) t ≡ pieces k n t ++ (take k (drop (n * k) t) ∷ [])
 unfolding pieces
 pieces-snoc k zero t = rw zero-mul
-pieces-snoc k (suc n) t = rw (pieces-snoc k n (drop k t), drop-drop, suc-mul, add-comm)
+pieces-snoc k (suc n) t = rw (pieces-snoc k n (drop k t), drop-drop, suc-mul, add-comm k (n * k))
 
 pieces-length : (k n : ℕ) (t : List ℕ) → length (pieces k n t) ≡ n
 unfolding pieces
 pieces-length k zero t = refl
 pieces-length k (suc n) t = ap suc (pieces-length k n (drop k t))
-
-pieces-long : (k n : ℕ) (t : List ℕ) {u : List ℕ} → n * k ≤ length t → u ∈ pieces k n t → length u ≡ k
-unfolding pieces
-pieces-long k zero t fits m = absurd (mem-nil m)
-pieces-long k (suc n) t fits m =
-    let e = suc-mul n k in
-    mem-elim (λ (u : List ℕ). length u ≡ k) m (length-take-le k t (omega arith))
-    (λ m. pieces-long k n (drop k t) (simp length-drop (omega arith)) m)
-
-flat-pieces : (k n : ℕ) (t : List ℕ) → flat (pieces k n t) ≡ take (n * k) t
-unfolding pieces flat
-flat-pieces k zero t = rw zero-mul
-flat-pieces k (suc n) t = rw (flat-pieces k n (drop k t), suc-mul, add-comm) (sym (take-add k (n * k) t))
 
 -- Rows
 
@@ -121,22 +112,10 @@ over f rows t = flat (map f rows) ++ drop (length (flat (map f rows))) t
 
 module _ (f : Row → List ℕ) (k : ℕ) where
   abbrev pub Wide : List Row → Type 0
-  Wide rows = (r : Row) → r ∈ rows → length (f r) ≡ k
+  Wide rows = Sized k (map f rows)
 
-  flat-append : (a b : List Row) → flat (map f (a ++ b)) ≡ flat (map f a) ++ flat (map f b)
-  unfolding flat
-  flat-append [] b = refl
-  flat-append (r ∷ a) b = rw (flat-append a b, append-assoc)
-
-  flat-one : (r : Row) → flat (map f (r ∷ [])) ≡ f r
-  unfolding flat
-  flat-one r = append-nil (f r)
-
-  flat-long : (rows : List Row) → Wide rows → length (flat (map f rows)) ≡ length rows * k
-  unfolding flat
-  flat-long [] wide = sym (zero-mul k)
-  flat-long (r ∷ rows) wide =
-      omega (arith, length-append (f r) (flat (map f rows)), wide r (here refl), flat-long rows (λ q m. wide q (there m)), suc-mul (length rows) k)
+  rows-long : (rows : List Row) → Wide rows → length (flat (map f rows)) ≡ length rows * k
+  rows-long rows wide = flat-long k (map f rows) wide ∙ ap (λ (n : ℕ). n * k) (length-map rows f)
 
   -- the rows that stand there already
   pub over-whole : (rows : List Row) (n : ℕ) (t : List ℕ) → n * k ≤ length t → map f rows ≡ pieces k n t → over f rows t ≡ t
@@ -147,61 +126,46 @@ module _ (f : Row → List ℕ) (k : ℕ) where
   -- those of the first n that stay are wide
   pub wide-staying : (rows : List Row) (n : ℕ) (t v : List ℕ) → n * k ≤ length t → map f rows ≡ pieces k n t → Wide (staying v rows)
   unfolding staying
-  wide-staying rows n t v fits e r m =
-      pieces-long k n t fits (rw e at (map-in f (filter-out (λ r. not (dominates v (r .vector))) rows m .0)))
+  wide-staying rows n t v fits e u m =
+      let (r, i, q) = map-out f (filterB (λ r. not (dominates v (r .vector))) rows) m in
+      pieces-long k n t fits u (rw (e, q) at (map-in f (filter-out (λ r. not (dominates v (r .vector))) rows i .0)))
 
   module _ (rows : List Row) (t : List ℕ) (wide : Wide rows) where
     -- the rows are read back, and the table is as long as it was
     pub over-read : pieces k (length rows) (over f rows t) ≡ map f rows
-    over-read =
-        rw (← length-map rows f)
-        (pieces-flat k (map f rows) _ (λ u m. let (r, i, e) = map-out f rows m in ap length (sym e) ∙ wide r i))
+    over-read = rw (← length-map rows f) (pieces-flat k (map f rows) _ wide)
 
     pub over-long : length rows * k ≤ length t → length (over f rows t) ≡ length t
     over-long h =
-        let n = flat-long rows wide in
+        let n = rows-long rows wide in
         simp (length-append, length-drop) (omega arith)
 
-    pub over-past : (m : ℕ) → length rows * k ≤ m → drop m (over f rows t) ≡ drop m t
-    over-past m h =
-        let l = flat (map f rows) in
-        let n = flat-long rows wide in
-        let e : length l + (m - length l) ≡ m = omega arith in
-        rw (← e) (drop-append-add l (drop (length l) t) (m - length l) ∙ drop-drop (m - length l) (length l) t)
+    pub over-behind : (m : ℕ) → length rows * k ≤ m → drop m (over f rows t) ≡ drop m t
+    over-behind m h = over-past (flat (map f rows)) t m (rw (rows-long rows wide) h)
 
     -- a row more, from further on
     pub over-more : (r : Row) (from : ℕ) → from + k ≤ length t → length rows * k ≤ from → f r ≡ take (from + k - from) (drop from t)
         → paste (over f rows t) (length rows * k) (drop from (over f rows t)) k ≡ over f (rows ++ (r ∷ [])) t
+    unfolding flat
     over-more r from fits h e =
         let l = flat (map f rows) in
-        let n = flat-long rows wide in
+        let n = rows-long rows wide in
         let part : f r ≡ take k (drop from t) = e ∙ (rw add-sub-cancel-left) in
         let long : length (f r) ≡ k = rw part (simp (length-take, length-drop) (omega arith)) in
-        let next : flat (map f (rows ++ (r ∷ []))) ≡ l ++ f r = flat-append rows (r ∷ []) ∙ (rw (flat-one r)) in
+        let next : flat (map f (rows ++ (r ∷ []))) ≡ l ++ f r = rw (map-append, flat-append, append-nil) in
         let size : length (l ++ f r) ≡ length rows * k + k = simp length-append (omega arith) in
-        rw (next, size, take-at l (drop (length l) t) (length rows * k) n, over-past from h, ← part, over-past (length rows * k + k) (omega arith))
+        rw (next, size, take-at l (drop (length l) t) (length rows * k) n, over-behind from h, ← part, over-behind (length rows * k + k) (omega arith))
 
     -- a row inserted at row p
     pub over-insert : (e : Row) (p : ℕ) → length (f e) ≡ k → p ≤ length rows
-        → inserted (over f rows t) (p * k) (length rows * k) (f e) ≡ over f (take p rows ++ (e ∷ drop p rows)) t
+        → between (over f rows t) (p * k) (length rows * k) (f e) ≡ over f (take p rows ++ (e ∷ drop p rows)) t
     unfolding flat
     over-insert e p long h =
         let a = flat (map f (take p rows)) in
         let b = flat (map f (drop p rows)) in
-        let na : length a ≡ p * k = flat-long (take p rows) (λ r m. wide r (take-out p rows m)) ∙ (rw (length-take-le p rows h)) in
-        let all : flat (map f rows) ≡ a ++ b = ap (λ (l : List Row). flat (map f l)) (sym (take-append-drop p rows)) ∙ flat-append (take p rows) (drop p rows) in
-        let n : length a + length b ≡ length rows * k = sym (length-append a b) ∙ sym (ap length all) ∙ flat-long rows wide in
-        let next : flat (map f (take p rows ++ (e ∷ drop p rows))) ≡ a ++ (f e ++ b) = flat-append (take p rows) (e ∷ drop p rows) in
+        let na : length a ≡ p * k = rows-long (take p rows) (λ u m. wide u (take-out p (map f rows) (rw map-take at m))) ∙ (rw (length-take-le p rows h)) in
+        let all : flat (map f rows) ≡ a ++ b = ap (λ (l : List Row). flat (map f l)) (sym (take-append-drop p rows)) ∙ (rw (map-append, flat-append)) in
+        let n : length a + length b ≡ length rows * k = sym (length-append a b) ∙ sym (ap length all) ∙ rows-long rows wide in
+        let next : flat (map f (take p rows ++ (e ∷ drop p rows))) ≡ a ++ (f e ++ b) = rw (map-append, flat-append) in
         let size : length (a ++ (f e ++ b)) ≡ length rows * k + k = simp length-append (omega arith) in
-        rw (all, next, size, append-assoc, ← na, ← n, insert-between a b _ (f e)) (simp (drop-drop, long, length-append, append-assoc))
-
-beside-parts : (rows : List Row) → beside (map vectorOf rows) (map pathOf rows) ≡ rows
-unfolding beside
-beside-parts [] = refl
-beside-parts (r ∷ rows) = ap (λ (l : List Row). r ∷ l) (beside-parts rows)
-
--- rows in the first places of both tables are read back
-pub filled-over : (k w : ℕ) (rows : List Row) (c p : List ℕ) → Wide vectorOf k rows → Wide pathOf w rows
-    → filled k w (length rows) (over vectorOf rows c) (over pathOf rows p) ≡ rows
-unfolding filled
-filled-over k w rows c p wide wide′ = rw (over-read vectorOf k rows c wide, over-read pathOf w rows p wide′) (beside-parts rows)
+        rw (all, next, size, append-assoc a b, ← na, ← n, insert-between a b _ (f e)) (simp (drop-drop, long, length-append, append-assoc))

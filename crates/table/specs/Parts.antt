@@ -1,11 +1,11 @@
--- What the parts of entering compute: whether the vector is met, which rows stay, where it stands among them, and a row inserted.
+-- What the parts of entering compute: which rows stay, and where the vector stands among them.
 use mathlib.Core.Path.{_≡_}
 use mathlib.Core.Bool.{Bool, cond, not}
-use mathlib.Core.List.{List, [], _++_, _∷_}
-use Prim.Native.Nat.{_+_, _-_, suc, ℕ}
-use lib.ListN.{drop, length, take}
-use Rattle.lists.specs.Lists.{any, filterB}
-use Rattle.costs.specs.Costs.{dominates, noneLarger, vectorLess}
+use mathlib.Core.List.{List, [], _∷_}
+use Prim.Native.Nat.{suc, ℕ}
+use lib.ListN.{length}
+use Rattle.lists.specs.Lists.{filterB}
+use Rattle.costs.specs.Costs.{dominates, vectorLess}
 use Rattle.pages.specs.Pages.{pieces}
 use Rattle.table.specs.Enter.{Row, costsOver, witnessesOver}
 
@@ -13,10 +13,6 @@ use Rattle.table.specs.Enter.{Row, costsOver, witnessesOver}
 unfoldable pub before : {A : Type 0} → (A → Bool) → List A → ℕ
 before p [] = 0
 before p (a ∷ l) = cond (p a) (suc (before p l)) 0
-
--- one of the first rows equals or dominates the vector
-abbrev pub metIn : List ℕ → ℕ → List ℕ → Bool
-metIn costs count v = any (λ u. noneLarger u v) (pieces (length v) count costs)
 
 -- how many of the first rows stand before the first that is not less than the vector
 abbrev pub placeIn : List ℕ → ℕ → List ℕ → ℕ
@@ -31,7 +27,3 @@ pub record Closed (rows : List Row) (costs witnesses : List ℕ) (count : ℕ) (
   pub count-is : count ≡ length rows
   pub costs-are : costs′ ≡ costsOver rows costs
   pub witnesses-are : witnesses′ ≡ witnessesOver rows witnesses
-
--- a row inserted at a place of the first `end` places, which move up from there
-abbrev pub inserted : List ℕ → ℕ → ℕ → List ℕ → List ℕ
-inserted table at end row = take at table ++ (row ++ (take (end - at) (drop at table) ++ drop (end + length row) table))

@@ -1,12 +1,10 @@
 //! A front table over two lent arrays in step: a vector is entered with its tree in the filled rows.
 ghost use mathlib.Core.Path.{_≡_};
-ghost use Prim.Native.Nat.{_*_, _+_, _≤_, min};
-ghost use lib.ListN.{drop, length};
-ghost use lib.Seq.{paste};
-ghost use Rattle.costs.specs.Costs.{dominates as dominatesOf, noneLarger, vectorLess};
+ghost use Prim.Native.Nat.{_*_, _≤_};
+ghost use lib.ListN.{length};
 ghost use Rattle.table.specs.Answers.{enteringOf};
 ghost use Rattle.table.specs.Enter.{enterCall, filled};
-ghost use Rattle.table.specs.Parts.{Closed, inserted, metIn, placeIn, staying};
+ghost use Rattle.table.specs.Parts.{Closed, placeIn, staying};
 
 /// What entering came to: the tables have fewer rows than said; a row equals or dominates the vector; there is no room; the new count.
 pub enum Entered {
@@ -14,70 +12,6 @@ pub enum Entered {
     Met,
     Full,
     Rows(usize),
-}
-
-/// Whether no component of v is larger than that of w; false for vectors of different lengths.
-pub fn none_larger(v: &[u32], w: &[u32]) -> bool
-    ensures { λ r. ⌜ r ≡ noneLarger (now (v .entry)) (now (w .entry)) ⌝ }
-{
-    if v.len() != w.len() {
-        return false;
-    }
-    let mut i: usize = 0;
-    while i < v.len() {
-        if w[i] < v[i] {
-            return false;
-        }
-        i += 1;
-    }
-    true
-}
-
-/// Whether v is less than w by the first component that differs; what is at an end is less.
-pub fn less(v: &[u32], w: &[u32]) -> bool
-    ensures { λ r. ⌜ r ≡ vectorLess (now (v .entry)) (now (w .entry)) ⌝ }
-{
-    let mut i: usize = 0;
-    while i < w.len() {
-        if v.len() <= i {
-            return true;
-        }
-        let x = v[i];
-        let y = w[i];
-        if x < y {
-            return true;
-        }
-        if y < x {
-            return false;
-        }
-        i += 1;
-    }
-    false
-}
-
-/// Whether no component of v is larger than that of w, and some is smaller.
-pub fn dominates(v: &[u32], w: &[u32]) -> bool
-    ensures { λ r. ⌜ r ≡ dominatesOf (now (v .entry)) (now (w .entry)) ⌝ }
-{
-    if none_larger(v, w) { less(v, w) } else { false }
-}
-
-// Whether one of the first rows equals or dominates the vector.
-fn meets(costs: &[u32], count: usize, vector: &[u32]) -> bool
-    requires { ⌜ count * length (now vector) ≤ length (now costs) ⌝ }
-    ensures { λ r. ⌜ r ≡ metIn (now (costs .entry)) count (now (vector .entry)) ⌝ }
-{
-    let k = vector.len();
-    let mut i: usize = 0;
-    while i < count {
-        let from = i * k;
-        let end = from + k;
-        if none_larger(&costs[from..end], vector) {
-            return true;
-        }
-        i += 1;
-    }
-    false
 }
 
 // How many of the first rows stand before the first that is not less than the vector.
@@ -90,36 +24,13 @@ fn place_of(costs: &[u32], count: usize, vector: &[u32]) -> usize
     while i < count {
         let from = i * k;
         let end = from + k;
-        if less(&costs[from..end], vector) {
+        if compare::less(&costs[from..end], vector) {
             i += 1;
         } else {
             return i;
         }
     }
     i
-}
-
-// Copies n places down to others of the same table.
-fn copy_costs(table: &mut [u32], from: usize, to: usize, n: usize)
-    requires { ⌜ (to ≤ from) × (from + n ≤ length (now table)) ⌝ }
-    ensures { λ _. ⌜ now (table .exit) ≡ paste (now (table .entry)) to (drop from (now (table .entry))) n ⌝ }
-{
-    let mut i: usize = 0;
-    while i < n {
-        table[to + i] = table[from + i];
-        i += 1;
-    }
-}
-
-fn copy_paths(table: &mut [u16], from: usize, to: usize, n: usize)
-    requires { ⌜ (to ≤ from) × (from + n ≤ length (now table)) ⌝ }
-    ensures { λ _. ⌜ now (table .exit) ≡ paste (now (table .entry)) to (drop from (now (table .entry))) n ⌝ }
-{
-    let mut i: usize = 0;
-    while i < n {
-        table[to + i] = table[from + i];
-        i += 1;
-    }
 }
 
 // Closes up the rows that the vector does not dominate, and counts them.
@@ -141,53 +52,14 @@ fn close_up(
         i += 1;
         let from = at * k;
         let end = from + k;
-        if dominates(vector, &costs[from..end]) {
+        if compare::dominates(vector, &costs[from..end]) {
             continue;
         }
-        copy_costs(costs, from, kept * k, k);
-        copy_paths(witnesses, at * w, kept * w, w);
+        copies::move_costs(costs, from, kept * k, k);
+        copies::move_rows(witnesses, at * w, kept * w, w);
         kept += 1;
     }
     kept
-}
-
-// Inserts a row at a place of the first `end` places, which move up from there.
-fn insert_costs(table: &mut [u32], at: usize, end: usize, row: &[u32])
-    requires { ⌜ (at ≤ end) × (end + length (now row) ≤ length (now table)) ⌝ }
-    ensures { λ _. ⌜ now (table .exit) ≡ inserted (now (table .entry)) at end (now (row .entry)) ⌝ }
-{
-    let k = row.len();
-    let mut i = end + k;
-    while at < i {
-        i -= 1;
-        if at + k <= i {
-            table[i] = table[i - k];
-        } else {
-            table[i] = row[i - at];
-        }
-    }
-}
-
-fn insert_path(table: &mut [u16], at: usize, end: usize, row: &[u16])
-    requires { ⌜ (at ≤ end) × (end + length (now row) ≤ length (now table)) ⌝ }
-    ensures { λ _. ⌜ now (table .exit) ≡ inserted (now (table .entry)) at end (now (row .entry)) ⌝ }
-{
-    let k = row.len();
-    let mut i = end + k;
-    while at < i {
-        i -= 1;
-        if at + k <= i {
-            table[i] = table[i - k];
-        } else {
-            table[i] = row[i - at];
-        }
-    }
-}
-
-fn least(a: usize, b: usize) -> usize
-    ensures { λ r. ⌜ r ≡ min a b ⌝ }
-{
-    if a < b { a } else { b }
 }
 
 /// Enters a vector with its tree in the first `count` rows of both tables, whose rows are as wide as the vector and the tree.
@@ -208,11 +80,11 @@ pub fn enter(
     if w == 0 {
         return Entered::Unfit;
     }
-    let room = least(costs.len() / k, witnesses.len() / w);
+    let room = copies::smaller(costs.len() / k, witnesses.len() / w);
     if room < count {
         return Entered::Unfit;
     }
-    if meets(costs, count, vector) {
+    if compare::meets(costs, count, vector) {
         return Entered::Met;
     }
     let kept = close_up(costs, witnesses, count, vector, w);
@@ -220,7 +92,7 @@ pub fn enter(
         return Entered::Full;
     }
     let place = place_of(costs, kept, vector);
-    insert_costs(costs, place * k, kept * k, vector);
-    insert_path(witnesses, place * w, kept * w, path);
+    copies::insert_costs(costs, place * k, kept * k, vector);
+    copies::insert_rows(witnesses, place * w, kept * w, path);
     Entered::Rows(kept + 1)
 }

@@ -2,13 +2,13 @@
 use mathlib.Core.Path.{_∙_, _≡_, ap, refl, sym}
 use mathlib.Core.Bool.{Bool, false, not, true}
 use mathlib.Core.Option.{none}
-use mathlib.Core.List.{List, [], _++_, _∷_, List·Memᴰ·head as here}
-use Prim.Native.Nat.{_*_, _+_, _-_, _/_, _<_, _^_, _≤_, min, pred, suc, ℕ}
+use mathlib.Core.List.{List, [], _∷_, List·Memᴰ·head as here}
+use Prim.Native.Nat.{_*_, _+_, _-_, _<_, _^_, _≤_, min, pred, suc, ℕ}
 use native.Mathlib.Nat.{le-trans, mul-le-mul-right, suc-mul}
 use native.Mathlib.Numerals.{add-one}
 use native.Mathlib.Omega.{arith}
 use lib.Dec.{leb}
-use lib.ListN.{drop, getD, length, length-append, length-drop, length-set, length-take, set, take}
+use lib.ListN.{drop, getD, length, length-drop, length-set, length-take, set, take}
 use lib.Seq.{take-all, take-suc, take-suc-set}
 use borrow.Author.Tests.{le-leb, not-false, not-true}
 use Rattle.lists.proofs.Tests.{T-true}
@@ -16,19 +16,17 @@ use Rattle.graph.specs.Graph.{width}
 use Rattle.checks.specs.Checks.{Ended, firstUnmet}
 use Rattle.checks.proofs.Checks.{met-all}
 use Rattle.checks.proofs.Ended.{checked-answered, ended-answered, unmet-parts}
-use Rattle.costs.specs.Network.{Row}
 use Rattle.network_file.specs.File.{Sizes, fileChecks, networkOf, openOf, sizesOf}
 use Rattle.network_file.proofs.Accepted.{accepted}
-use Rattle.network.specs.Answers.{openedOf, sizesIn}
-use Rattle.network.specs.declared.Header.{Header}
+use Rattle.fields.specs.Fields.{sizesIn}
+use Rattle.fields.specs.declared.Header.{Header}
+use Rattle.network.specs.Answers.{openedOf}
 use Rattle.network.specs.declared.Opened.{Opened}
 use Rattle.network.specs.declared.Opened.the-variants as opened
 use Rattle.pages.specs.Pages.{capacity, restAfter}
 use Rattle.pages.proofs.Pages.{rows-end}
 use Rattle.operations.specs.Operations.{FrontTables, Fronted, check, frontCall, frontChecks, frontOver, graphIn, layoutsIn, pageCall, pageChecks, pickCall, someTree, startChecks}
 use Rattle.operations.proofs.Files.{node-count}
-use Rattle.ends.specs.Ends.{endsBy}
-use Rattle.ends.proofs.Ends.{ends-length}
 use Rattle.page.specs.Answers.{pagedOf}
 use Rattle.page.specs.declared.PageAnswer.{PageAnswer}
 use Rattle.page.specs.declared.PageAnswer.the-variants as paged
@@ -77,11 +75,12 @@ opened-met f {h} {r} told e =
     let (met, same) = checked-answered (fileChecks f) (sizesOf f) (sizesIn h) (sym e ∙ ap openedOf told) in
     (met, sym same)
 
-pub nodes-in : (f : List ℕ) {h : Header} → firstUnmet (fileChecks f) ≡ none → sizesIn h ≡ sizesOf f → (2 ≤ h .n) × (h .n ≤ 32)
-nodes-in f {h} met sizes =
+pub sizes-in : (f : List ℕ) {h : Header} → firstUnmet (fileChecks f) ≡ none → sizesIn h ≡ sizesOf f → (2 ≤ h .n) × (h .n ≤ 32) × (h .k ≤ 4)
+sizes-in f {h} met sizes =
     let a = accepted f met in
     let n = ap (λ (s : Sizes). s .n) sizes in
-    (omega (arith, a .nodes-low), omega (arith, a .nodes-high))
+    let k = ap (λ (s : Sizes). s .k) sizes in
+    (omega (arith, a .nodes-low), omega (arith, a .nodes-high), omega (arith, a .criteria-high))
 
 -- where Page answers, there is a tree
 pub answered-given : {f : List ℕ} {h : Header} {r : PageAnswer} {c : ℕ} {m : Bool} (page : List ℕ) → firstUnmet (fileChecks f) ≡ none → sizesIn h ≡ sizesOf f
@@ -91,17 +90,17 @@ answered-given {f} {h} {r} {c} {m} page met sizes told e =
     let behindFile = check 12 (someTree (layoutsIn f)) ∷ check 11 (leb (width (graphIn f)) (length page)) ∷ startChecks (networkOf f) [] in
     let all = ended-answered (pageChecks f page []) _ page _ (record { count = c; more = m }) (sym e ∙ ap pagedOf told) .0 in
     let behind = unmet-parts (fileChecks f) behindFile all .1 in
-    record { met = met; sizes = sizes; tree = T-true _ .1 (met-all behindFile .0 behind (check 12 (someTree (layoutsIn f))) (here refl)) }
+    let (low, high, criteria) = sizes-in f met sizes in
+    record {
+      met = met;
+      sizes = sizes;
+      low = low;
+      high = high;
+      criteria = criteria;
+      tree = T-true _ .1 (met-all behindFile .0 behind (check 12 (someTree (layoutsIn f))) (here refl));
+    }
 
 module _ {f : List ℕ} {h : Header} (g : Given f h) where
-  pub given-nodes : (2 ≤ h .n) × (h .n ≤ 32)
-  given-nodes = nodes-in f (g .met) (g .sizes)
-
-  pub given-criteria : (h .k ≡ sizesOf f .k) × (h .k ≤ 4)
-  given-criteria =
-      let k = ap (λ (s : Sizes). s .k) (g .sizes) in
-      (k, omega (arith, accepted f (g .met) .criteria-high))
-
   -- the width of the trees, as the code has it
   given-width : h .n - 1 ≡ width (graphIn f)
   given-width =
@@ -109,21 +108,17 @@ module _ {f : List ℕ} {h : Header} (g : Given f h) where
       let is : h .n - 1 ≡ pred (length (graphIn f .nodes)) = omega (arith, node-count f) in
       is
 
-  -- the arrays of ends have a place for each row
-  pub ends-fit : (side : Row → ℕ) (ends : List ℕ) → ends ≡ endsBy side f → h .m ≤ length ends
-  ends-fit side ends e = omega (arith, accepted f (g .met) .rows-high, ap (λ (s : Sizes). s .m) (g .sizes), ap length e, ends-length side f)
-
   -- the rows that Front fills stand within the cost table
-  pub rows-within : {r : FrontAnswer} {c : ℕ} {whole : Bool} {after : FrontTables} (costs witnesses rest : List ℕ) → r ≡ fronted.Rows c whole
-      → record { outcome = frontedOf r; buffers = after } ≡ frontCall f costs witnesses → length (after .costs) ≡ length costs → c * h .k ≤ length (after .costs ++ rest)
+  pub rows-within : {r : FrontAnswer} {c : ℕ} {whole : Bool} {after : FrontTables} (costs witnesses : List ℕ) → r ≡ fronted.Rows c whole
+      → record { outcome = frontedOf r; buffers = after } ≡ frontCall f costs witnesses → length (after .costs) ≡ length costs → c * h .k ≤ length (after .costs)
   unfolding frontCall frontOver capacity
-  rows-within {r} {c} {whole} {after} costs witnesses rest told e kept =
+  rows-within {r} {c} {whole} {after} costs witnesses told e kept =
       let outcome = sym (ap (λ (x : Ended Fronted FrontTables). x .outcome) e) ∙ ap frontedOf told in
       let (met, same) = ended-answered (frontChecks f costs witnesses) _ (record { costs = costs; witnesses = witnesses }) _ (record { count = c; whole = whole }) outcome in
       let count = ap (λ (x : Fronted). x .count) same in
-      let k = length (networkOf f .kinds) in
-      let fits = rows-end c k (length costs) (omega arith) in
-      simp (length-append, given-criteria .0, ← accepted f (g .met) .kinds) (omega arith)
+      let k : h .k ≡ length (networkOf f .kinds) = ap (λ (s : Sizes). s .k) (g .sizes) ∙ sym (accepted f (g .met) .kinds) in
+      let fits = rows-end c (length (networkOf f .kinds)) (length costs) (omega arith) in
+      rw (k, kept) fits
 
 -- A call of Page in a run, which answers r and leaves the page as `after`.
 pub record Called (f : List ℕ) (h : Header) (start page after : List ℕ) (total : ℕ) (r : PageAnswer) : Type 0 where
@@ -159,10 +154,10 @@ unfolding pickCall
 picked n t page low high h = simp (le-leb _ _ low, le-leb _ _ high, le-leb _ _ h)
 
 -- The run goes on after the copy of the last tree of the page: where it stands then, and that fewer trees are left.
-pub copied-on : {f start page : List ℕ} {n total total′ c : ℕ} (tree part : List ℕ) → (2 ≤ n) × (n ≤ 32) → More f start page (n - 1) total c
+pub copied-on : {f start page : List ℕ} {n total total′ c : ℕ} (tree part : List ℕ) → 2 ≤ n → n ≤ 32 → More f start page (n - 1) total c
     → part ≡ pickCall n page (c - 1) → (length part ≤ 31 → take (length part) tree ≡ part) → total′ ≡ min (total + c) (2 ^ 64 - 1)
     → Run f (take (n - 1) tree) total′ × (length (restAfter (layoutsIn f) (take (n - 1) tree)) < length (restAfter (layoutsIn f) start))
-copied-on {f} {start} {page} {n} {total} {total′} {c} tree part (low, high) more e copied held =
+copied-on {f} {start} {page} {n} {total} {total′} {c} tree part low high more e copied held =
     let some-written = more .some-written in
     let next : suc (c - 1) ≡ c = omega arith in
     let fits : (c - 1) * (n - 1) + (n - 1) ≤ length page = omega (arith, more .within, suc-mul (c - 1) (n - 1), ap (λ (k : ℕ). k * (n - 1)) next) in

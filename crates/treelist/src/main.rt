@@ -8,9 +8,10 @@ ghost use Rattle.operations.specs.Operations.{layoutsIn, pageCall};
 ghost use Rattle.page.specs.Answers.{pagedOf};
 ghost use Rattle.treelist.specs.Given.{Given};
 use ends::Rows;
+use fields::Header;
 use front::FrontAnswer;
 use libc::STDIN_FILENO;
-use network::Header;
+use libc::STDOUT_FILENO;
 use network::Opened;
 use page::PageAnswer;
 use printout::Line;
@@ -36,57 +37,42 @@ fn witness_space() -> [u16; 15872]
     [0; 15872]
 }
 
+// Writes the line and a line feed to the standard output.
+fn write(line: Line) {
+    let ended = line.ended();
+    let bytes = ended.bytes;
+    let n = ended.length();
+    io::write_all(STDOUT_FILENO, &bytes[..n]);
+}
+
 // A file or a network that is turned away.
 fn print_refusal(number: u8) {
-    Line::start().text(b"refused").number(number as u64).write();
+    write(Line::start().text(b"refused").number(number as u64));
 }
 
 // The first line: n, m and k.
 fn print_sizes(h: Header) {
-    Line::start()
-        .text(b"network")
-        .number(h.n as u64)
-        .number(h.m as u64)
-        .number(h.k as u64)
-        .write();
-}
-
-fn with_rows(line: Line, rows: &[u16]) -> Line {
-    let mut l = line;
-    let mut i: usize = 0;
-    while i < rows.len() {
-        l = l.number(rows[i] as u64);
-        i += 1;
-    }
-    l
-}
-
-fn with_costs(line: Line, costs: &[u32]) -> Line {
-    let mut l = line;
-    let mut i: usize = 0;
-    while i < costs.len() {
-        l = l.number(costs[i] as u64);
-        i += 1;
-    }
-    l
-}
-
-// The first k costs of a vector; it has four.
-fn with_vector(line: Line, vector: [u64; 4], k: usize) -> Line {
-    let mut l = line;
-    let mut c: usize = 0;
-    while c < k && c < 4 {
-        l = l.number(vector[c]);
-        c += 1;
-    }
-    l
+    write(
+        Line::start()
+            .text(b"network")
+            .number(h.n as u64)
+            .number(h.m as u64)
+            .number(h.k as u64),
+    );
 }
 
 // A tree line: the path's rows, then its vector.
+fn tree_line(rows: &[u16], vector: [u64; 4], k: usize) -> Line {
+    Line::start()
+        .text(b"tree")
+        .rows(rows)
+        .text(b" cost")
+        .vector(vector, k)
+}
+
 fn print_tree(file: &[u8], firsts: &[u8], seconds: &[u8], k: usize, rows: &[u16]) {
     let path = trace::trace(firsts, seconds, 1, rows);
-    let line = with_rows(Line::start().text(b"tree"), rows);
-    with_vector(line.text(b" cost"), vector::vector(file, path), k).write();
+    write(tree_line(rows, vector::vector(file, path), k));
 }
 
 // The first trees of a page.
@@ -119,6 +105,17 @@ fn by_value(places: &[u16]) -> [u16; 31]
     tree
 }
 
+// A count that holds at the greatest number of 64 bits.
+fn held(total: u64, more: u64) -> u64
+    ensures { λ r. ⌜ r ≡ min (total + more) (2 ^ 64 - 1) ⌝ }
+{
+    if more <= 18446744073709551615 - total {
+        total + more
+    } else {
+        18446744073709551615
+    }
+}
+
 // The pages one after the other, each after the last tree of the one before; answers how many trees there are.
 fn print_list(file: &[u8], firsts: &[u8], seconds: &[u8], h: Header, page: &mut [u16]) -> u64
     requires { ⌜ Given (now file) h × (h .n - 1 ≤ length (now page)) ⌝ }
@@ -136,7 +133,7 @@ fn print_list(file: &[u8], firsts: &[u8], seconds: &[u8], h: Header, page: &mut 
             return total;
         };
         print_page(file, firsts, seconds, n, k, page, count);
-        total = planner::held(total, count as u64);
+        total = held(total, count as u64);
         if !more {
             return total;
         }
@@ -145,14 +142,22 @@ fn print_list(file: &[u8], firsts: &[u8], seconds: &[u8], h: Header, page: &mut 
     }
 }
 
-// A front line: the vector of row i, then its witness's rows.
+// A front line: the vector, then its witness's rows.
+fn front_line(costs: &[u32], rows: &[u16]) -> Line {
+    Line::start()
+        .text(b"front")
+        .costs(costs)
+        .text(b" tree")
+        .rows(rows)
+}
+
+// The line of row i of the front table.
 fn print_row(n: u8, k: usize, costs: &[u32], witnesses: &[u16], i: usize)
     requires { ⌜ i * k + k ≤ length (now costs) ⌝ }
 {
     let from = i * k;
     let to = from + k;
-    let line = with_costs(Line::start().text(b"front"), &costs[from..to]);
-    with_rows(line.text(b" tree"), pick::pick(n, witnesses, i)).write();
+    write(front_line(&costs[from..to], pick::pick(n, witnesses, i)));
 }
 
 // The first rows of the front table.
@@ -166,52 +171,70 @@ fn print_front(n: u8, k: usize, costs: &[u32], witnesses: &[u16], count: usize)
     }
 }
 
+// The line with the front's mark behind.
+fn marked(line: Line, whole: bool) -> Line {
+    if whole {
+        line.text(b" whole")
+    } else {
+        line.text(b" cut")
+    }
+}
+
+// The last line: both counts, and the front's mark.
 fn print_end(trees: u64, rows: usize, whole: bool) {
     let line = Line::start()
         .text(b"end trees")
         .number(trees)
         .text(b" front")
         .number(rows as u64);
-    if whole {
-        line.text(b" whole").write();
-    } else {
-        line.text(b" cut").write();
-    }
+    write(marked(line, whole));
 }
 
-// The front, and the last line.
-fn print_rest(file: &[u8], h: Header, trees: u64)
+// The front in the tables lent, and the last line.
+fn print_tables(file: &[u8], h: Header, trees: u64, costs: &mut [u32], witnesses: &mut [u16])
     requires { ⌜ Given (now file) h ⌝ }
 {
-    let n = h.n;
-    let k = h.k as usize;
-    let mut vectors = cost_space();
-    let mut paths = witness_space();
-    let rows = 512 * k;
-    let places = 512 * (n as usize - 1);
-    let costs: &mut [u32] = &mut vectors;
-    let witnesses: &mut [u16] = &mut paths;
-    let answer = front::front(file, &mut costs[..rows], &mut witnesses[..places]);
+    let answer = front::front(file, costs, witnesses);
     let FrontAnswer::Rows { count, whole } = answer else {
         return;
     };
-    print_front(n, k, costs, witnesses, count);
+    print_front(h.n, h.k as usize, costs, witnesses, count);
     print_end(trees, count, whole);
 }
 
-// The printout of a network that has a tree.
-fn print_network(file: &[u8], h: Header)
+// The front in tables of 512 rows, and the last line.
+fn print_rest(file: &[u8], h: Header, trees: u64)
     requires { ⌜ Given (now file) h ⌝ }
 {
-    let m = h.m as usize;
-    print_sizes(h);
+    let mut vectors = cost_space();
+    let mut paths = witness_space();
+    let costs: &mut [u32] = &mut vectors;
+    let witnesses: &mut [u16] = &mut paths;
+    let rows = 512 * (h.k as usize);
+    let places = 512 * (h.n as usize - 1);
+    print_tables(file, h, trees, &mut costs[..rows], &mut witnesses[..places]);
+}
+
+// The list in pages of 64 trees; answers how many trees there are.
+fn print_trees(file: &[u8], h: Header) -> u64
+    requires { ⌜ Given (now file) h ⌝ }
+    ensures { λ r. ⌜ r ≡ min (length (layoutsIn (now (file .entry)))) (2 ^ 64 - 1) ⌝ }
+{
     let all = ends::ends_of(file, Rows::All);
     let firsts = all.firsts;
     let seconds = all.seconds;
     let mut trees = page_space();
     let page: &mut [u16] = &mut trees;
     let places = 64 * (h.n as usize - 1);
-    let total = print_list(file, &firsts[..m], &seconds[..m], h, &mut page[..places]);
+    print_list(file, &firsts, &seconds, h, &mut page[..places])
+}
+
+// The printout of a network that has a tree.
+fn print_network(file: &[u8], h: Header)
+    requires { ⌜ Given (now file) h ⌝ }
+{
+    print_sizes(h);
+    let total = print_trees(file, h);
     print_rest(file, h, total);
 }
 

@@ -1,325 +1,230 @@
-//! Document 01's trials that are not starred, some of the others and some of version 2, each worked by the code.
-ghost use mathlib.Core.Path.{_≡_};
-ghost use Prim.Native.Nat.{_<_, _≤_};
-ghost use lib.ListN.{length};
-ghost use Rattle.network.specs.Answers.{openedOf};
-ghost use Rattle.network_file.specs.File.{openOf};
-ghost use Rattle.reach.specs.Answers.{reachedOf};
-ghost use Rattle.order.specs.Answers.{orderedOf};
-ghost use Rattle.cost.specs.Answers.{costedOf};
-ghost use Rattle.page.specs.Answers.{pagedOf};
-ghost use Rattle.front.specs.Answers.{frontedOf};
-ghost use Rattle.trials.specs.Files.{byteBy, countOf, cycled, filled, moreOf, numberOf, rowByte, rowsOf, sizeOf, wholeOf, wordOf};
-ghost use Rattle.examples.specs.Trials.{fileA};
-use cost::Costed;
-use front::FrontAnswer;
-use network::Opened;
-use order::Ordered;
-use page::PageAnswer;
-use reach::ReachAnswer;
+//! Document 01's trials that are not starred, some of the others and some of version 2, worked by the library's functions for Rust and C.
+//! A line says what was tried, and what the call gives; or by which check it is refused, and what the buffer keeps. The file stdout has what
+//! must come out. The starred trials are theorems (crate examples).
+use libc::STDOUT_FILENO;
+use planner_c::planner_cost;
+use planner_c::planner_front;
+use planner_c::planner_open;
+use planner_c::planner_order;
+use planner_c::planner_page;
+use planner_c::planner_reach;
+use printout::Line;
 
-// What is read off an answer; 0 or false where it has no such thing.
+// Writes the line and a line feed to the standard output.
+fn write(line: Line) {
+    let ended = line.ended();
+    let bytes = ended.bytes;
+    let n = ended.length();
+    io::write_all(STDOUT_FILENO, &bytes[..n]);
+}
 
-fn number(answer: Opened) -> u8
-    ensures { λ r. ⌜ r ≡ numberOf (openedOf answer) ⌝ }
-{
-    match answer {
-        Opened::Header(_) => 0,
-        Opened::Refused(number) => number,
+// The line with what a call returned behind.
+fn came(line: Line, code: u32) -> Line {
+    if code == 0 {
+        line.text(b" gives")
+    } else {
+        line.text(b" refused").number(code as u64).text(b" keeps")
     }
 }
 
-fn word(answer: ReachAnswer) -> u32
-    ensures { λ r. ⌜ r ≡ wordOf (reachedOf answer) ⌝ }
-{
-    match answer {
-        ReachAnswer::Set { word, size: _ } => word,
-        ReachAnswer::Refused(_) => 0,
+// Open, of a file that has so many of this: n, m and k.
+fn open(what: &[u8], many: u64, file: &[u8]) {
+    let mut answer = [5; 3];
+    let code = planner_open(file, &mut answer);
+    write(came(Line::start().text(what).number(many), code).costs(&answer));
+}
+
+// The line of a call with the rows that it was given, and with its answer.
+fn tell(what: &[u8], rows: &[u16], code: u32, answer: &[u32]) {
+    write(came(Line::start().text(what).rows(rows), code).costs(answer));
+}
+
+// Reach: the word and the size.
+fn reach(file: &[u8]) {
+    let mut answer = [5; 2];
+    let code = planner_reach(file, &mut answer);
+    tell(b"reach", &[], code, &answer);
+}
+
+fn order(file: &[u8], rows: &[u16]) {
+    let mut path = [5; 3];
+    let code = planner_order(file, rows, &mut path);
+    write(came(Line::start().text(b"order").rows(rows), code).rows(&path));
+}
+
+fn cost(file: &[u8], rows: &[u16]) {
+    let mut vector = [5; 3];
+    let code = planner_cost(file, rows, &mut vector);
+    tell(b"cost", rows, code, &vector);
+}
+
+// Page after a path, which is empty at the start: the count, and 1 for 'more'.
+fn page(file: &[u8], page: &mut [u16], start: &[u16]) {
+    let mut answer = [5; 2];
+    let code = planner_page(file, page, start, &mut answer);
+    tell(b"page", start, code, &answer);
+}
+
+// Front: the count, and 1 for 'whole'.
+fn front(file: &[u8], costs: &mut [u32], witnesses: &mut [u16]) {
+    let mut answer = [5; 2];
+    let code = planner_front(file, costs, witnesses, &mut answer);
+    tell(b"front", &[], code, &answer);
+}
+
+// A file of n nodes and no rows.
+fn open_nodes(n: u8) {
+    open(b"open nodes", n as u64, &[1, 0, 0, 0, 5, n, 0, 0, 1, 0]);
+}
+
+// A file of one row, whose cost is 999,936 and this.
+fn open_cost(low: u8) {
+    let file = [1, 0, 0, 0, 13, 2, 0, 1, 1, 0, 1, 2, 0, 0, 0, 15, 66, low];
+    open(b"open cost", 999936 + low as u64, &file);
+}
+
+// A byte of a file whose rows are all alike; `first` has it up to the first row.
+fn byte_of(first: &[u8; 18], at: usize) -> u8 {
+    if at < 10 {
+        first[at]
+    } else {
+        first[10 + (at - 10) % 8]
     }
 }
 
-fn size(answer: ReachAnswer) -> u32
-    ensures { λ r. ⌜ r ≡ sizeOf (reachedOf answer) ⌝ }
-{
-    match answer {
-        ReachAnswer::Set { word: _, size } => size,
-        ReachAnswer::Refused(_) => 0,
-    }
-}
-
-fn order_number(answer: Ordered) -> u8
-    ensures { λ r. ⌜ r ≡ numberOf (orderedOf answer) ⌝ }
-{
-    match answer {
-        Ordered::Path => 0,
-        Ordered::Refused(number) => number,
-    }
-}
-
-fn cost_number(answer: Costed) -> u8
-    ensures { λ r. ⌜ r ≡ numberOf (costedOf answer) ⌝ }
-{
-    match answer {
-        Costed::Vector => 0,
-        Costed::Refused(number) => number,
-    }
-}
-
-fn page_number(answer: PageAnswer) -> u8
-    ensures { λ r. ⌜ r ≡ numberOf (pagedOf answer) ⌝ }
-{
-    match answer {
-        PageAnswer::Trees { count: _, more: _ } => 0,
-        PageAnswer::Refused(number) => number,
-    }
-}
-
-fn count(answer: PageAnswer) -> usize
-    ensures { λ r. ⌜ r ≡ countOf (pagedOf answer) ⌝ }
-{
-    match answer {
-        PageAnswer::Trees { count, more: _ } => count,
-        PageAnswer::Refused(_) => 0,
-    }
-}
-
-fn more(answer: PageAnswer) -> bool
-    ensures { λ r. ⌜ r ≡ moreOf (pagedOf answer) ⌝ }
-{
-    match answer {
-        PageAnswer::Trees { count: _, more } => more,
-        PageAnswer::Refused(_) => false,
-    }
-}
-
-fn rows(answer: FrontAnswer) -> usize
-    ensures { λ r. ⌜ r ≡ rowsOf (frontedOf answer) ⌝ }
-{
-    match answer {
-        FrontAnswer::Rows { count, whole: _ } => count,
-        FrontAnswer::Refused(_) => 0,
-    }
-}
-
-fn whole(answer: FrontAnswer) -> bool
-    ensures { λ r. ⌜ r ≡ wholeOf (frontedOf answer) ⌝ }
-{
-    match answer {
-        FrontAnswer::Rows { count: _, whole } => whole,
-        FrontAnswer::Refused(_) => false,
-    }
-}
-
-// The files.
-
-fn cycle(list: &[u8], at: usize) -> u8
-    requires { ⌜ 0 < length (now list) ⌝ }
-    ensures { λ r. ⌜ r ≡ cycled (now (list .entry)) at ⌝ }
-{
-    list[at % list.len()]
-}
-
-fn row_byte(ends: &[u8], costs: &[u8], k: usize, row: usize, place: usize) -> u8
-    requires { ⌜ (0 < length (now ends)) × (0 < length (now costs)) × (k ≤ 4) × (row < 65536) × (place < 20) ⌝ }
-    ensures { λ r. ⌜ r ≡ rowByte (now (ends .entry)) (now (costs .entry)) k row place ⌝ }
-{
-    if place < 2 {
-        return cycle(ends, 2 * row + place);
-    }
-    if place < 4 {
-        return 0;
-    }
-    if place % 4 == 3 {
-        return cycle(costs, k * row + (place / 4 - 1));
-    }
-    0
-}
-
-fn byte_by(head: &[u8], ends: &[u8], costs: &[u8], k: usize, at: usize) -> u8
-    requires { ⌜ (0 < length (now ends)) × (0 < length (now costs)) × (k ≤ 4) × (at < 65536) ⌝ }
-    ensures { λ r. ⌜ r ≡ byteBy (now (head .entry)) (now (ends .entry)) (now (costs .entry)) k at ⌝ }
-{
-    if at < head.len() {
-        return head[at];
-    }
-    let size = 4 + 4 * k;
-    let rest = at - head.len();
-    row_byte(ends, costs, k, rest / size, rest % size)
-}
-
-// A file that begins with `head` and goes on with rows of k costs. Their ends and costs are those of the lists, over and over.
-fn fill(file: &mut [u8], head: &[u8], ends: &[u8], costs: &[u8], k: usize)
-    requires { ⌜ (0 < length (now ends)) × (0 < length (now costs)) × (k ≤ 4) × (length (now file) ≤ 65536) ⌝ }
-    ensures { λ _. ⌜ now (file .exit) ≡ filled (now (head .entry)) (now (ends .entry)) (now (costs .entry)) k (length (now (file .entry))) ⌝ }
-{
+fn fill(file: &mut [u8], first: &[u8; 18]) {
     let mut at = 0;
     while at < file.len() {
-        file[at] = byte_by(head, ends, costs, k, at);
+        file[at] = byte_of(first, at);
         at += 1;
     }
 }
 
-// The trials.
-
-// The number that Open answers with; 0 where the file passes.
-fn opened(file: &[u8]) -> u8
-    ensures { λ r. ⌜ r ≡ numberOf (openOf (now (file .entry))) ⌝ }
-{
-    number(network::open(file))
-}
-
-fn opens() {
-    // n of 1 and 33; 2 and 32, with no rows
-    check::expect(opened(&[1, 0, 0, 0, 5, 1, 0, 0, 1, 0]) == 3);
-    check::expect(opened(&[1, 0, 0, 0, 5, 33, 0, 0, 1, 0]) == 3);
-    check::expect(opened(&[1, 0, 0, 0, 5, 2, 0, 0, 1, 0]) == 0);
-    check::expect(opened(&[1, 0, 0, 0, 5, 32, 0, 0, 1, 0]) == 0);
-    // one row, with a cost of 1,000,000 and of one more
-    check::expect(opened(&[1, 0, 0, 0, 13, 2, 0, 1, 1, 0, 1, 2, 0, 0, 0, 15, 66, 64]) == 0);
-    check::expect(opened(&[1, 0, 0, 0, 13, 2, 0, 1, 1, 0, 1, 2, 0, 0, 0, 15, 66, 65]) == 7);
-    // 256 rows and 257, all the same
+// 256 rows, all the same, and 257.
+fn open_rows() {
     let mut most = [0; 2058];
-    fill(&mut most, &[1, 0, 0, 8, 5, 2, 1, 0, 1, 0], &[1, 2], &[0], 1);
-    check::expect(opened(&most) == 0);
+    fill(
+        &mut most,
+        &[1, 0, 0, 8, 5, 2, 1, 0, 1, 0, 1, 2, 0, 0, 0, 0, 0, 0],
+    );
+    open(b"open rows", 256, &most);
     let mut above = [0; 2066];
     fill(
         &mut above,
-        &[1, 0, 0, 8, 13, 2, 1, 1, 1, 0],
-        &[1, 2],
-        &[0],
-        1,
+        &[1, 0, 0, 8, 13, 2, 1, 1, 1, 0, 1, 2, 0, 0, 0, 0, 0, 0],
     );
-    check::expect(opened(&above) == 3);
+    open(b"open rows", 257, &above);
 }
 
-fn reaches(file: &[u8])
-    requires { ⌜ now file ≡ fileA ⌝ }
-{
-    let reached = reach::reach(file);
-    check::expect(word(reached) == 7);
-    check::expect(size(reached) == 3);
+// A file of two nodes with no tree.
+fn without_tree(file: &[u8]) {
+    let mut places = [0; 1];
+    page(file, &mut places, &[]);
+    order(file, &[0]);
 }
 
-fn orders(file: &[u8])
-    requires { ⌜ now file ≡ fileA ⌝ }
-{
-    let mut path = [9; 3];
-    check::expect(order_number(order::order(file, &[2, 0], &mut path)) == 0);
-    check::expect(path[0] == 0);
-    check::expect(path[1] == 2);
-    check::expect(order_number(order::order(file, &[0, 1], &mut path)) == 10);
+// Version 2, with one row of this state; 2 is barred, 3 is none.
+fn state(state: u8) {
+    let file = [2, 0, 0, 0, 14, 2, 0, 1, 1, 0, 1, 2, 0, 0, state, 0, 0, 0, 0];
+    open(b"open state", state as u64, &file);
+    without_tree(&file);
 }
 
-fn costs(file: &[u8])
-    requires { ⌜ now file ≡ fileA ⌝ }
-{
-    let mut vector = [0; 2];
-    check::expect(cost_number(cost::cost(file, &[2, 0], &mut vector)) == 0);
-    check::expect(vector[0] == 9);
-    check::expect(vector[1] == 7);
+// Rows drawn on network A.
+fn draw(file: &[u8]) {
+    order(file, &[2, 0]);
+    order(file, &[0, 1]);
+    cost(file, &[2, 0]);
 }
 
-// A page of network A, and tree 1 of it.
-fn picks(file: &[u8])
-    requires { ⌜ now file ≡ fileA ⌝ }
-{
+// A page of four trees of network A, and tree 1 of it.
+fn pick(file: &[u8]) {
     let mut places = [0; 8];
-    let paged = page::page(file, &mut places, &[]);
-    check::expect(count(paged) == 4);
-    check::expect(more(paged));
-    let tree = pick::pick(3, &places, 1);
-    check::expect(tree.len() == 2);
-    check::expect(tree[0] == 0);
-    check::expect(tree[1] == 3);
+    page(file, &mut places, &[]);
+    write(Line::start().text(b"pick").rows(pick::pick(3, &places, 1)));
 }
 
-fn fronts(file: &[u8])
-    requires { ⌜ now file ≡ fileA ⌝ }
-{
-    // with one row
+// The front of network A in tables of one row and of three, and what they hold.
+fn fronts(file: &[u8]) {
     let mut vector = [0; 2];
     let mut tree = [0; 2];
-    let cut = front::front(file, &mut vector, &mut tree);
-    check::expect(rows(cut) == 1);
-    check::expect(!whole(cut));
-    check::expect(vector[0] == 7);
-    check::expect(vector[1] == 7);
-    check::expect(tree[0] == 0);
-    check::expect(tree[1] == 3);
-    // with three
+    front(file, &mut vector, &mut tree);
+    tell(b"front of tree", &tree, 0, &vector);
     let mut vectors = [0; 6];
     let mut trees = [0; 6];
-    let all = front::front(file, &mut vectors, &mut trees);
-    check::expect(rows(all) == 3);
-    check::expect(whole(all));
+    front(file, &mut vectors, &mut trees);
+    tell(b"front of trees", &trees, 0, &vectors);
 }
 
-fn no_rows() {
-    let file = [1, 0, 0, 0, 5, 2, 0, 0, 1, 0];
-    check::expect(opened(&file) == 0);
-    let mut places = [0; 1];
-    check::expect(page_number(page::page(&file, &mut places, &[])) == 12);
+fn network_a() {
+    let file = b"\x01\x00\x00\x00\x36\x03\x00\x04\x02\x00\x01\
+        \x01\x02\x00\x00\x00\x00\x00\x04\x00\x00\x00\x07\
+        \x01\x02\x00\x00\x00\x00\x00\x06\x00\x00\x00\x02\
+        \x01\x03\x00\x00\x00\x00\x00\x05\x00\x00\x00\x05\
+        \x02\x03\x00\x00\x00\x00\x00\x03\x00\x00\x00\x06";
+    reach(file);
+    draw(file);
+    pick(file);
+    fronts(file);
 }
 
-// Version 2, with one row: a state of 3; and barred, so that there is no tree, and the row is drawn in vain.
-fn states() {
-    check::expect(opened(&[2, 0, 0, 0, 14, 2, 0, 1, 1, 0, 1, 2, 0, 0, 3, 0, 0, 0, 0]) == 14);
-    let barred = [2, 0, 0, 0, 14, 2, 0, 1, 1, 0, 1, 2, 0, 0, 2, 0, 0, 0, 0];
-    check::expect(opened(&barred) == 0);
-    let mut places = [0; 1];
-    check::expect(page_number(page::page(&barred, &mut places, &[])) == 12);
-    let mut path = [0; 1];
-    check::expect(order_number(order::order(&barred, &[0], &mut path)) == 15);
+// All pairs of n nodes: the whole list on a page, and on two, of which the first has its last tree at `last`.
+fn pairs(file: &[u8], n: u8, first: &mut [u16], last: usize) {
+    open(b"open pairs of nodes", n as u64, file);
+    let mut places = [0; 500];
+    page(file, &mut places, &[]);
+    page(file, first, &[]);
+    page(file, &mut places, pick::pick(n, first, last));
 }
 
-// Four nodes and all six pairs, in pages of ten trees.
 fn four_nodes() {
-    let mut file = [0; 58];
-    let ends = [1, 2, 1, 3, 1, 4, 2, 3, 2, 4, 3, 4];
-    fill(&mut file, &[1, 0, 0, 0, 53, 4, 0, 6, 1, 0], &ends, &[0], 1);
-    let mut places1 = [0; 30];
-    let first = page::page(&file, &mut places1, &[]);
-    check::expect(more(first));
-    let mut places2 = [0; 30];
-    let second = page::page(&file, &mut places2, &places1[27..]);
-    check::expect(!more(second));
-    check::expect(count(first) + count(second) == 16);
+    let mut ten = [0; 30];
+    pairs(
+        b"\x01\x00\x00\x00\x35\x04\x00\x06\x01\x00\
+        \x01\x02\x00\x00\x00\x00\x00\x00\
+        \x01\x03\x00\x00\x00\x00\x00\x00\
+        \x01\x04\x00\x00\x00\x00\x00\x00\
+        \x02\x03\x00\x00\x00\x00\x00\x00\
+        \x02\x04\x00\x00\x00\x00\x00\x00\
+        \x03\x04\x00\x00\x00\x00\x00\x00",
+        4,
+        &mut ten,
+        9,
+    );
 }
 
-// Five nodes and all ten pairs, in pages of fifty trees.
 fn five_nodes() {
-    let mut file = [0; 90];
-    let ends = [1, 2, 1, 3, 1, 4, 1, 5, 2, 3, 2, 4, 2, 5, 3, 4, 3, 5, 4, 5];
-    fill(&mut file, &[1, 0, 0, 0, 85, 5, 0, 10, 1, 0], &ends, &[0], 1);
-    let mut places1 = [0; 200];
-    let first = page::page(&file, &mut places1, &[]);
-    check::expect(more(first));
-    let mut places2 = [0; 200];
-    let second = page::page(&file, &mut places2, &places1[196..]);
-    check::expect(more(second));
-    let mut places3 = [0; 200];
-    let third = page::page(&file, &mut places3, &places2[196..]);
-    check::expect(!more(third));
-    check::expect(count(first) + count(second) + count(third) == 125);
+    let mut fifty = [0; 200];
+    pairs(
+        b"\x01\x00\x00\x00\x55\x05\x00\x0a\x01\x00\
+        \x01\x02\x00\x00\x00\x00\x00\x00\
+        \x01\x03\x00\x00\x00\x00\x00\x00\
+        \x01\x04\x00\x00\x00\x00\x00\x00\
+        \x01\x05\x00\x00\x00\x00\x00\x00\
+        \x02\x03\x00\x00\x00\x00\x00\x00\
+        \x02\x04\x00\x00\x00\x00\x00\x00\
+        \x02\x05\x00\x00\x00\x00\x00\x00\
+        \x03\x04\x00\x00\x00\x00\x00\x00\
+        \x03\x05\x00\x00\x00\x00\x00\x00\
+        \x04\x05\x00\x00\x00\x00\x00\x00",
+        5,
+        &mut fifty,
+        49,
+    );
 }
 
 fn main() {
-    opens();
-    let mut file = [0; 59];
-    fill(
-        &mut file,
-        &[1, 0, 0, 0, 54, 3, 0, 4, 2, 0, 1],
-        &[1, 2, 1, 2, 1, 3, 2, 3],
-        &[4, 7, 6, 2, 5, 5, 3, 6],
-        2,
-    );
-    reaches(&file);
-    orders(&file);
-    costs(&file);
-    picks(&file);
-    fronts(&file);
-    no_rows();
-    states();
+    open_nodes(1);
+    open_nodes(33);
+    open_nodes(32);
+    open_nodes(2);
+    without_tree(&[1, 0, 0, 0, 5, 2, 0, 0, 1, 0]);
+    open_cost(64);
+    open_cost(65);
+    open_rows();
+    state(3);
+    state(2);
+    network_a();
     four_nodes();
     five_nodes();
 }

@@ -1,6 +1,6 @@
 -- The rows of a path as the loops over them meet them: their number, those from step i on, the rules of cost step by step, that no sum is too large,
 -- and the rule that a criterion's byte names.
-use mathlib.Core.Path.{_∙_, _≡_, ap, sym}
+use mathlib.Core.Path.{_∙_, _≡_, ap, refl, sym}
 use mathlib.Core.Bool.{Bool, false, true}
 use mathlib.Core.List.{List, [], _∷_}
 use Prim.Native.Nat.{_*_, _+_, _<_, _≤_, max, ℕ}
@@ -14,15 +14,12 @@ use mir.Val.{Fits}
 use borrow.Author.Tests.{eq-eqb, le-ltb, lt-ltb, ne-eqb}
 use Rattle.lists.specs.Lists.{any, filterB, largest, sum}
 use Rattle.lists.proofs.Members.{filter-length}
-use Rattle.lists.proofs.Ranges.{getD-map-past, getD-map-range}
 use Rattle.graph.specs.Paths.{Key}
 use Rattle.costs.specs.Costs.{addedCost, costAt, inStreet, streetCost, worstCost}
 use Rattle.costs.specs.Network.{Network, rowAt}
 use Rattle.bounds.proofs.Limits.{added-most}
-use Rattle.network_file.specs.File.{Sizes, byteAt, kindOf, networkOf, rowIn, rowStart, sizesOf, stateWidth, u16At, u32At}
-use Rattle.network_file.proofs.Accepted.{row-in, row-past}
-use Rattle.network.specs.Answers.{kindIn}
-use Rattle.network.specs.declared.ByteKind.{ByteKind}
+use Rattle.network_file.specs.File.{Sizes, byteAt, kindOf, networkOf, sizesOf, u16At, u32At}
+use Rattle.fields.proofs.Laws.{cost-in, cost-nowhere, cost-past}
 use Rattle.paths.specs.Path.{keysOf, lengthOf, rowsIn}
 use Rattle.paths.specs.declared.Path.{Path}
 use Rattle.paths.proofs.Laws.{keys-length}
@@ -112,13 +109,12 @@ module _ (f : List ℕ) (bytes : (i : ℕ) → Fits w8 (byteAt f i)) where
   word at = omega (arith, bytes at, bytes (at + 1), bytes (at + 2), bytes (at + 2 + 1))
 
   pub cost-word : (c r : ℕ) → costAt (networkOf f) c r ≤ 4294967295
-  unfolding rowIn
   cost-word c r = elim (decLt r (sizesOf f .m)) [
-    | yes h ↦ rw (row-in f r h) (elim (decLt c (sizesOf f .k)) [
-      | yes l ↦ rw (getD-map-range (λ c. u32At f (rowStart f r + 4 + stateWidth f + 4 * c)) (sizesOf f .k) c 0 l) (word _)
-      | no l ↦ rw (getD-map-past (λ c. u32At f (rowStart f r + 4 + stateWidth f + 4 * c)) (sizesOf f .k) c 0 (omega arith)) (omega arith)
-    ])
-    | no h ↦ rw (row-past f r (omega arith)) (omega arith)
+    | yes h ↦ elim (decLt c (sizesOf f .k)) [
+      | yes l ↦ rw (cost-in f r c h l) (word _)
+      | no l ↦ omega (arith, cost-past f r (sizesOf f) refl c h (omega arith))
+    ]
+    | no h ↦ omega (arith, cost-nowhere f r (sizesOf f) refl c (omega arith))
   ]
 
   module _ {c : ℕ} {rows : List ℕ} {n i so : ℕ} (counted : Counted rows n) where
@@ -132,11 +128,10 @@ module _ (f : List ℕ) (bytes : (i : ℕ) → Fits w8 (byteAt f i)) where
 -- A criterion's cost, where the code has read the file's sizes s
 
 module _ (f : List ℕ) (c : ℕ) (rows : List ℕ) {s : Sizes} (same : s ≡ sizesOf f) where
-  -- and the kind that is named by the byte b
-  pub criterion-by : c < s .k → {b : ℕ} {kind known : ByteKind} → b ≡ byteAt f (9 + c) → kindIn kind ≡ kindOf b → kind ≡ known
-      → costByte (kindIn known) f c rows ≡ criterionOf f c rows
+  -- and the criterion's byte b
+  pub criterion-byte : c < s .k → {b : ℕ} → b ≡ byteAt f (9 + c) → costByte (kindOf b) f c rows ≡ criterionOf f c rows
   unfolding criterionOf
-  criterion-by h read named is = rw (lt-ltb _ _ (rw same at h), ← read, ← named, is)
+  criterion-byte h read = rw (lt-ltb _ _ (rw same at h), ← read)
 
   pub criterion-none : s .k ≤ c → 0 ≡ criterionOf f c rows
   unfolding criterionOf

@@ -9,7 +9,6 @@ ghost use Rattle.costs.specs.Network.{rowAt};
 ghost use Rattle.network_file.specs.File.{networkOf};
 ghost use Rattle.paths.specs.Path.{rowsIn};
 ghost use Rattle.vector.specs.Vector.{Counted, closingAt, criterionOf, liesIn, stepRow, vectorOf};
-use network::ByteKind;
 use paths::Path;
 
 /// How many rows the path has.
@@ -30,14 +29,14 @@ fn row_of(path: Path, i: usize) -> usize
 fn cost_of(file: &[u8], criterion: usize, path: Path, i: usize) -> u64
     ensures { λ r. ⌜ r ≡ costAt (networkOf (now (file .entry))) criterion (stepRow (rowsIn path) i) ⌝ }
 {
-    network::cost_at(file, criterion, row_of(path, i)) as u64
+    fields::cost_at(file, criterion, row_of(path, i)) as u64
 }
 
 /// The street of the row of step i.
 fn street_of(file: &[u8], path: Path, i: usize) -> u16
     ensures { λ r. ⌜ r ≡ rowAt (networkOf (now (file .entry))) (stepRow (rowsIn path) i) .street ⌝ }
 {
-    network::street_at(file, row_of(path, i))
+    fields::street_at(file, row_of(path, i))
 }
 
 /// The sum over the rows.
@@ -136,15 +135,15 @@ pub fn closing(file: &[u8], criterion: usize, path: Path) -> u64
 pub fn criterion_cost(file: &[u8], criterion: u8, path: Path) -> u64
     ensures { λ r. ⌜ r ≡ criterionOf (now (file .entry)) criterion (rowsIn path) ⌝ }
 {
-    let header = network::header_of(file);
+    let header = fields::header_of(file);
     let c = criterion as usize;
     if criterion < header.k {
-        let kind = network::kind_of(slices::byte_at(file, 9 + c));
+        let kind = slices::byte_at(file, 9 + c);
         match kind {
-            ByteKind::Added => added(file, c, path),
-            ByteKind::Worst => worst(file, c, path),
-            ByteKind::Closing => closing(file, c, path),
-            ByteKind::Unknown => 0,
+            0 => added(file, c, path),
+            1 => worst(file, c, path),
+            2 => closing(file, c, path),
+            3..=255 => 0,
         }
     } else {
         0

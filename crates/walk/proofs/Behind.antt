@@ -43,7 +43,7 @@ use Rattle.search.specs.Search.{nextRowOf, orElse}
 use Rattle.search.proofs.First.{next-least, next-none}
 use Rattle.paths.specs.Path.{enteredBy, noKey}
 use Rattle.grow.specs.Grow.{freshAfter, openPast}
-use Rattle.grow.specs.Musts.{growWith}
+use Rattle.grow.specs.Musts.{firstOf}
 use Rattle.grow.proofs.Grow.{entered-after, entered-step, fresh-ready, open-past, ready-after, ready-back, ready-bound, step-kept}
 use Rattle.grow.proofs.Musts.{GrownWith, Mustered, grow-accepts, grow-full, grown-ends}
 use Rattle.walk.specs.Walk.{afterFrom, afterOf, skipBy, skipOf}
@@ -261,7 +261,7 @@ module _ {g : Graph} {nb mustNb mustFirsts mustSeconds : List ℕ} {limit nodes 
   -- FIRST: the first path of all, and whether there is one
 
   abbrev pub firstPath : List Key
-  firstPath = growWith nb (g .firstEnds) (g .secondEnds) mustNb mustFirsts mustSeconds limit (g .plant) width (freshAfter nodes (enteredBy (g .plant) [])) [] 0 0
+  firstPath = firstOf nb (g .firstEnds) (g .secondEnds) mustNb mustFirsts mustSeconds limit (g .plant) nodes width
 
   first-grown : GrownWith g musts (start g) [] firstPath width
   first-grown = grow-accepts c (fit .few) width [] {s = start g} refl begun-first (fresh-ready (fit .charted) nodes [] (fit .all) tt) (omega (arith, fit .wide, fit .small))

@@ -13,7 +13,7 @@ use Rattle.graph.specs.Paths.{Key}
 use Rattle.states.specs.States.{mustRow}
 use Rattle.words.specs.Words.{bit, minus}
 use Rattle.search.specs.Search.{nextRowOf, orElse}
-use Rattle.paths.specs.Path.{enteredBy, extendedBy, noKey}
+use Rattle.paths.specs.Path.{enteredBy, extendedBy, keysOf, noKey}
 use Rattle.grow.specs.Grow.{freshAfter, openPast}
 use Rattle.grow.specs.Musts.{growWith}
 use Rattle.walk.specs.Walk.{afterFrom, afterOf, nextOf, skipBy, skipOf}
@@ -75,6 +75,9 @@ module _ (nb firsts seconds mustNb mustFirsts mustSeconds : List ℕ) (limit pla
   after-over width (suc i) fresh keys h = absurd (omega arith)
 
 -- what the code answers, if it has an answer, and if it has none
+pub next-keys : (n : Next) → n .some ≡ true → some (keysOf (n .path)) ≡ nextOf n
+next-keys n t = rw t
+
 pub next-some : (n : Next) (o : Option (List Key)) → n .some ≡ true → nextOf n ≡ orElse (nextOf n) o
 next-some n o t = rw t
 

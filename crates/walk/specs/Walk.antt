@@ -19,6 +19,11 @@ use Rattle.walk.specs.declared.Next.{Next}
 abbrev pub nextOf : Next → Option (List Key)
 nextOf n = pick (n .some) (some (keysOf (n .path))) none
 
+-- the steps of the path that was found, or else those of the path that was given
+abbrev pub pathOr : List Key → Option (List Key) → List Key
+pathOr keys none = keys
+pathOr keys (some found) = found
+
 module _ (nb firsts seconds mustNb mustFirsts mustSeconds : List ℕ) (limit plant : ℕ) where
   -- The first path behind all that go on from `keys` by the step k: by the next parallel row r, or with the bound moved up to k.
   unfoldable pub skipBy : Option ℕ → ℕ → ℕ → List Key → Key → Option (List Key)

@@ -4,7 +4,7 @@
 ghost use mathlib.Core.Path.{_≡_};
 ghost use Rattle.paths.specs.Path.{keysOf, plantOf};
 ghost use Rattle.states.specs.States.{mustRow};
-ghost use Rattle.walk.specs.Walk.{afterOf, nextOf, skipOf};
+ghost use Rattle.walk.specs.Walk.{afterOf, nextOf, pathOr, skipOf};
 use paths::Path;
 use search::RowFound;
 
@@ -14,15 +14,15 @@ pub struct Next {
     pub path: Path,
 }
 
-/// Whether row r is a must row, by the first ends of the must rows.
-pub fn must_row(heads: &[u8], r: usize) -> bool
+// Whether row r is a must row, by the first ends of the must rows.
+fn must_row(heads: &[u8], r: usize) -> bool
     ensures { λ x. ⌜ x ≡ mustRow (now (heads .entry)) r ⌝ }
 {
     slices::byte_at(heads, r) != 0
 }
 
-/// The first path behind all that go on from a path by this step, of those with all must rows.
-pub fn skip(
+// The first path behind all that go on from a path by this step, of those with all must rows.
+fn skip(
     neighbours: &[u64],
     firsts: &[u8],
     seconds: &[u8],
@@ -97,7 +97,7 @@ pub fn skip(
     }
 }
 
-/// The first path behind all that begin with the first `len` steps of a path, of those with all must rows.
+/// The first path behind all that begin with the first `len` steps of a path, of those with all must rows; where there is none, the path itself.
 pub fn after(
     neighbours: &[u64],
     firsts: &[u8],
@@ -111,7 +111,7 @@ pub fn after(
     path: Path,
     len: usize,
 ) -> Next
-    ensures { λ r. ⌜ (plantOf (r .path) ≡ plantOf path) × (nextOf r ≡ afterOf (now (neighbours .entry)) (now (firsts .entry)) (now (seconds .entry)) (now (claims .entry)) (now (heads .entry)) (now (tails .entry)) limit (plantOf path) nodes width (keysOf path) len) ⌝ }
+    ensures { λ r. ⌜ (plantOf (r .path) ≡ plantOf path) × (nextOf r ≡ afterOf (now (neighbours .entry)) (now (firsts .entry)) (now (seconds .entry)) (now (claims .entry)) (now (heads .entry)) (now (tails .entry)) limit (plantOf path) nodes width (keysOf path) len) × (keysOf (r .path) ≡ pathOr (keysOf path) (afterOf (now (neighbours .entry)) (now (firsts .entry)) (now (seconds .entry)) (now (claims .entry)) (now (heads .entry)) (now (tails .entry)) limit (plantOf path) nodes width (keysOf path) len)) ⌝ }
 {
     let prefix = path.shortened(len);
     let mut i = prefix.length();

@@ -1,45 +1,40 @@
--- `copies::copy_costs` meets its contract: at each turn i places are copied.
-use mathlib.Core.Path.{_≡_}
-use Prim.Native.Nat.{_-_, _≤_}
-use native.Mathlib.Numerals.{add-one}
-use native.Mathlib.Omega.{arith}
-use lib.ListN.{length, length-set}
-use lib.Seq.{paste, paste-suc, paste-zero}
+-- `copies::copy_costs` meets its contract: at each turn the first i places stand in the table; there remain m - i.
+use mathlib.Core.Path.{_∙_, refl}
+use Prim.Native.Nat.{_-_}
 use Rattle.copies.proofs.Copies.{copied-is, room-least}
+use Rattle.copies.proofs.Pasting.{Pasting, pasting-end, pasting-more, pasting-start}
 use borrow.Author.Needs.{needs}
 use Rattle.copies.proofs.copy_costs.Statement.{statement}
 use Rattle.copies.proofs.copy_costs.Tie as tie
 
 abbrev Inv-loop : tie.InvT-loop
-Inv-loop table₀ at places n m i₀ table i =
-    (i ≤ m) × (length table ≡ length table₀) × (m ≤ length places) × (m ≤ length table₀ - at) × (table ≡ paste table₀ at places i)
+Inv-loop costs₀ at places n m i₀ costs i = Pasting costs₀ at places m costs i
 
 abbrev μ-loop : tie.MeasureT-loop
-μ-loop table₀ at places n m i₀ table i = m - i
+μ-loop costs₀ at places n m i₀ costs i = m - i
 
 fitting-requires : tie.Need-fitting-requires Inv-loop μ-loop
 fitting-requires c κs = search needs
 
 loop-holds : tie.Need-loop-holds Inv-loop μ-loop
 loop-holds c =
-    let a = c .before .before .before .args in
     let least = room-least _ _ _ _ _ (c .fitting .ensures) in
-    (search needs, search needs, least .0, least .1, paste-zero (a .table .now) (a .at) (a .places .now))
+    pasting-start _ _ _ _ (least .0) (least .1)
 
-mul-table : tie.Need-mul-table Inv-loop μ-loop
-mul-table c = search needs
+mul-costs : tie.Need-mul-costs Inv-loop μ-loop
+mul-costs c = search needs
 
-shared-slice-read-table : tie.Need-shared-slice-read-table Inv-loop μ-loop
-shared-slice-read-table c = search needs
+shared-slice-read-costs : tie.Need-shared-slice-read-costs Inv-loop μ-loop
+shared-slice-read-costs c = search needs
 
-add-table : tie.Need-add-table Inv-loop μ-loop
-add-table c = search needs
+add-costs : tie.Need-add-costs Inv-loop μ-loop
+add-costs c = search needs
 
-mul-table-2 : tie.Need-mul-table-2 Inv-loop μ-loop
-mul-table-2 c = search needs
+mul-costs-2 : tie.Need-mul-costs-2 Inv-loop μ-loop
+mul-costs-2 c = search needs
 
-slice-write-table : tie.Need-slice-write-table Inv-loop μ-loop
-slice-write-table c = search needs
+slice-write-costs : tie.Need-slice-write-costs Inv-loop μ-loop
+slice-write-costs c = search needs
 
 add-i : tie.Need-add-i Inv-loop μ-loop
 add-i c = search needs
@@ -48,18 +43,13 @@ loop-less : tie.Need-loop-less Inv-loop μ-loop
 loop-less c = search needs
 
 loop-again : tie.Need-loop-again Inv-loop μ-loop
-loop-again c =
-    let l = c .before .before .loop in
-    let a = c .before .before .before .before .before .before .args in
-    (search needs, simp length-set (l .inv .1), l .inv .2, l .inv .3, rw (l .inv .4, add-one) (paste-suc (a .table .now) (a .at) (a .places .now) (l .i) 0 (omega arith) (omega arith)))
+loop-again c = pasting-more (c .before .before .loop .inv) _ (c .before .loop-test .taken) refl
 
 same-length : tie.Need-same-length Inv-loop μ-loop
 same-length c = search needs
 
 returns : tie.Need-returns Inv-loop μ-loop
-returns c =
-    let done : c .before .loop .i ≡ c .before .before .fitting .result = omega arith in
-    copied-is _ _ _ _ _ _ _ (c .before .before .fitting .ensures) done (c .before .loop .inv .4)
+returns c = pasting-end (c .before .loop .inv) (c .loop-test .left) ∙ copied-is _ _ _ _ _ (c .before .before .fitting .ensures)
 
 pub copy-costs-spec : {M : Type 1} → statement M
 copy-costs-spec =
@@ -69,11 +59,11 @@ copy-costs-spec =
     μ-loop
     fitting-requires
     loop-holds
-    mul-table
-    shared-slice-read-table
-    add-table
-    mul-table-2
-    slice-write-table
+    mul-costs
+    shared-slice-read-costs
+    add-costs
+    mul-costs-2
+    slice-write-costs
     add-i
     loop-less
     loop-again

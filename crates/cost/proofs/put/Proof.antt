@@ -1,4 +1,4 @@
--- The loop's invariant: the first i costs are written over the buffer.
+-- The loop's invariant: the first i costs are written over the buffer. Its measure: the costs that are left.
 use mathlib.Core.Path.{_∙_, _≡_}
 use Prim.Native.Nat.{_-_, _≤_}
 use native.Mathlib.Omega.{arith}

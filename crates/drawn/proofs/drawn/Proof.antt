@@ -5,10 +5,12 @@ use borrow.Author.Needs.{needs}
 use borrow.Author.Tests.{not-false, not-true}
 use Rattle.checks.specs.Checks.{answered}
 use Rattle.network_file.specs.File.{openOf}
-use Rattle.network.specs.Answers.{openedOf, sizesIn}
-use Rattle.drawn.specs.Answers.{drawnOf, numberOf}
+use Rattle.fields.specs.Fields.{sizesIn}
+use Rattle.network.specs.Answers.{openedOf}
+use Rattle.tried.specs.Answers.{drawnOf}
+use Rattle.tried.proofs.Laws.{refusal}
+use Rattle.drawn.specs.Answers.{numberOf}
 use Rattle.drawn.proofs.Answers.{open-stops, opened, states-broken, states-kept, tree-stops, treeCall, tried-drawn}
-use Rattle.drawn.proofs.Laws.{refusal}
 use Rattle.drawn.proofs.drawn.Statement.{statement}
 use Rattle.drawn.proofs.drawn.Tie as tie
 
@@ -31,7 +33,7 @@ returns : tie.Need-returns
 returns c =
     let told = c .before .before .enum-told .given .1 in
     let stops = open-stops _ _ _ (sym (c .before .before .before .before .«open» .ensures) ∙ ap openedOf told) in
-    refusal _ _ (c .refused .ensures ∙ c .before .number-of .ensures ∙ ap (λ opened. numberOf (openedOf opened)) told) (stops .1) ∙ sym (stops .0)
+    refusal _ _ (c .refused .ensures .0 ∙ c .before .number-of .ensures ∙ ap (λ opened. numberOf (openedOf opened)) told, c .refused .ensures .1, c .refused .ensures .2) (stops .1) ∙ sym (stops .0)
 
 -- Open has answered
 met : (c : tie.After-opened) → openOf (c .before .before .before .before .before .args .file .now) ≡ answered (sizesIn (c .opened .given .0 .0))
@@ -47,10 +49,10 @@ cast-width : tie.Need-cast-width
 cast-width c = search needs
 
 sub-width : tie.Need-sub-width
-sub-width c = omega (arith, opened _ _ (met (c .before .before .before .before .before .before)) .0)
+sub-width c = omega (arith, opened _ _ (met (c .before .before .before .before .before .before)))
 
 tried-requires : tie.Need-tried-requires
-tried-requires c κs = opened _ _ (met (c .before .before .before .before .before .before)) .1
+tried-requires c κs = search needs
 
 -- the answer to checks 8, 9 and 10
 abbrev header : tie.After-tried → tie.After-opened
@@ -65,7 +67,7 @@ asked c =
     c .tried .ensures ∙ tried-drawn _ _ (met (header c)) _ _ _ _ (ends .0) (ends .1) (c .before .before .nodes-word .ensures)
 
 returns-2 : tie.Need-returns-2
-returns-2 c = tree-stops _ _ (met (header (c .before))) _ (c .before .tried .result) (asked (c .before)) (c .if1 .taken)
+returns-2 c = tree-stops _ _ (met (header (c .before))) _ (c .before .tried .result) (asked (c .before)) (λ e. c .if1 .taken (cc))
 
 states-kept-requires : tie.Need-states-kept-requires
 states-kept-requires c κs = search needs

@@ -5,7 +5,8 @@ use lib.Seq.{length-take-le}
 use borrow.Author.Needs.{needs}
 use Rattle.front.specs.Answers.{refusedBy}
 use Rattle.listed.proofs.Answers.{Lists, answered-by, refused-by}
-use Rattle.network.specs.Answers.{openedOf, sizesIn}
+use Rattle.fields.specs.Fields.{sizesIn}
+use Rattle.network.specs.Answers.{openedOf}
 use Rattle.page.proofs.Given.{Read, ends-fit}
 use Rattle.front.proofs.Calls.{front-costs, front-filled, front-stops, front-witnesses}
 use Rattle.front.proofs.Given.{criteria-some, laid, lent, nodes-several}

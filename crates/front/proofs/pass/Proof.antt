@@ -17,11 +17,11 @@ abbrev μ-loop : tie.MeasureT-loop
 μ-loop file neighbours firsts seconds claims heads tails limit plant nodes width k known count costs₀ witnesses₀ scratch₀ path₀ costs witnesses scratch path =
     left (openIn file) (layoutsIn file) (rowsIn path)
 
-first-requires : tie.Need-first-requires Inv-loop μ-loop
-first-requires c κs = search needs
+first-path-requires : tie.Need-first-path-requires Inv-loop μ-loop
+first-path-requires c κs = search needs
 
 loop-holds : tie.Need-loop-holds Inv-loop μ-loop
-loop-holds c = turn-start (c .before .before .before .before .before .before .before .before .before .before .before .pre .0) scratchRows _ _ _ _ (c .first .ensures .0) (c .first .ensures .1)
+loop-holds c = turn-start (c .before .before .before .before .before .before .before .before .before .before .before .pre .0) scratchRows _ _ _ _ (c .first-path .ensures .0) (c .first-path .ensures .1)
 
 offer-requires : tie.Need-offer-requires Inv-loop μ-loop
 offer-requires c κs = search needs
@@ -53,7 +53,7 @@ pass-spec =
     (tie.spec
     Inv-loop
     μ-loop
-    first-requires
+    first-path-requires
     loop-holds
     offer-requires
     skip-length-requires

@@ -1,4 +1,4 @@
--- The call is the model: no step is entered, and the fresh nodes are all but the plant.
+-- The call is the model: both tables of neighbours are those of the rows.
 use borrow.Author.Needs.{needs}
 use mathlib.Core.Path.{_∙_}
 use Rattle.listed.specs.Listed.{firstFrom}
@@ -11,42 +11,23 @@ neighbours-requires c κs = search needs
 neighbours-requires-2 : tie.Need-neighbours-requires-2
 neighbours-requires-2 c κs = search needs
 
-start-requires : tie.Need-start-requires
-start-requires c κs = search needs
+slice-aggregate-first-path : tie.Need-slice-aggregate-first-path
+slice-aggregate-first-path c = search needs
 
-fresh-after-requires : tie.Need-fresh-after-requires
-fresh-after-requires c κs = search needs
+slice-aggregate-first-path-2 : tie.Need-slice-aggregate-first-path-2
+slice-aggregate-first-path-2 c = search needs
 
-slice-aggregate-grown-with : tie.Need-slice-aggregate-grown-with
-slice-aggregate-grown-with c = search needs
-
-slice-aggregate-grown-with-2 : tie.Need-slice-aggregate-grown-with-2
-slice-aggregate-grown-with-2 c = search needs
-
-grown-with-requires : tie.Need-grown-with-requires
-grown-with-requires c κs = search needs
+first-path-requires : tie.Need-first-path-requires
+first-path-requires c κs = search needs
 
 returns : tie.Need-returns
 unfolding firstFrom
-returns c =
-    c .grown-with .ensures .1
-    ∙ (rw (
-      c .before .before .before .before .before .before .neighbours .ensures,
-      c .before .before .before .before .before .neighbours2 .ensures,
-      c .before .before .before .fresh-after .ensures,
-      c .before .before .before .before .start .ensures .0,
-      c .before .before .before .before .start .ensures .1,
-    ))
+returns c = (
+  c .first-path .ensures .0,
+  c .first-path .ensures .1 ∙ (rw (c .before .before .before .before .neighbours .ensures, c .before .before .before .neighbours2 .ensures)),
+)
 
 pub first-path-spec : {M : Type 1} → statement M
 first-path-spec =
     tie.close
-    (tie.spec
-    neighbours-requires
-    neighbours-requires-2
-    start-requires
-    fresh-after-requires
-    slice-aggregate-grown-with
-    slice-aggregate-grown-with-2
-    grown-with-requires
-    returns)
+    (tie.spec neighbours-requires neighbours-requires-2 slice-aggregate-first-path slice-aggregate-first-path-2 first-path-requires returns)

@@ -1,11 +1,14 @@
 -- Open's refusal as it came, or what the first path tells of the network that Open answers (`sizes`).
 use mathlib.Core.Path.{_∙_, _≡_, ap, sym}
+use lib.ListN.{length, length-map}
 use lib.Seq.{length-take-le}
 use borrow.Author.Needs.{needs}
 use Rattle.checks.specs.Checks.{answered}
-use Rattle.network.specs.Answers.{openedOf, sizesIn}
+use Rattle.fields.specs.Fields.{sizesIn}
+use Rattle.network.specs.Answers.{openedOf}
 use Rattle.network_file.specs.File.{openOf}
 use Rattle.paths.specs.Path.{keysOf}
+use Rattle.paths.proofs.Laws.{keys-length}
 use Rattle.listed.proofs.Answers.{listed-lost, listed-short, listed-some, listed-stops, nodes-some, rows-fit}
 use Rattle.listed.proofs.listed.Statement.{statement}
 use Rattle.listed.proofs.listed.Tie as tie
@@ -79,8 +82,15 @@ slice-aggregate-first-path-4 c = sym (length-take-le _ _ (array-share-prefix-tai
 first-path-requires : tie.Need-first-path-requires
 first-path-requires c κs = search needs
 
-steps-requires : tie.Need-steps-requires
-steps-requires c κs = search needs
+length-requires : tie.Need-length-requires
+length-requires c κs = search needs
+
+-- the path has as many steps as it says
+steps : (c : tie.After-length) → c .length .result ≡ length (keysOf (c .before .first-path .result))
+steps c =
+    let path = c .before .first-path in
+    c .length .ensures
+    ∙ sym (keys-length (path .result) (simp length-map at (path .ok .1 .1 .1 .0 .1 .0 .1)) (simp length-map at (path .ok .1 .1 .0 .1 .0 .1)) (simp length-map at (path .ok .1 .1 .1 .1 .0 .1 .0 .1)))
 
 returns-2 : tie.Need-returns-2
 returns-2 c =
@@ -88,8 +98,8 @@ returns-2 c =
     let must = at .before .before .before .before .before .before .before .before in
     let free = unbarred must in
     listed-short _ _ (sizes (header free)) _ _ _ _ _ (keysOf (at .first-path .result)) (free .ends-of .ensures .0) (free .ends-of .ensures .1)
-    (must .ends-of2 .ensures .0) (must .ends-of2 .ensures .1) (at .before .before .before .before .before .nodes-word .ensures) (at .first-path .ensures)
-    (λ e. c .if1 .taken (c .before .steps .ensures ∙ e))
+    (must .ends-of2 .ensures .0) (must .ends-of2 .ensures .1) (at .before .before .before .before .before .nodes-word .ensures) (at .first-path .ensures .1)
+    (λ e. c .if1 .taken (steps (c .before) ∙ e))
 
 musts-on-requires : tie.Need-musts-on-requires
 musts-on-requires c κs = search needs
@@ -100,8 +110,8 @@ returns-3 c =
     let must = at .before .before .before .before .before .before .before .before in
     let free = unbarred must in
     listed-some _ _ (sizes (header free)) _ _ _ _ _ (keysOf (at .first-path .result)) (free .ends-of .ensures .0) (free .ends-of .ensures .1)
-    (must .ends-of2 .ensures .0) (must .ends-of2 .ensures .1) (at .before .before .before .before .before .nodes-word .ensures) (at .first-path .ensures)
-    (sym (c .before .before .before .steps .ensures) ∙ c .before .before .if1 .left) (sym (c .before .musts-on .ensures) ∙ c .if2 .taken)
+    (must .ends-of2 .ensures .0) (must .ends-of2 .ensures .1) (at .before .before .before .before .before .nodes-word .ensures) (at .first-path .ensures .1)
+    (sym (steps (c .before .before .before)) ∙ c .before .before .if1 .left) (sym (c .before .musts-on .ensures) ∙ c .if2 .taken)
 
 returns-4 : tie.Need-returns-4
 returns-4 c =
@@ -109,8 +119,8 @@ returns-4 c =
     let must = at .before .before .before .before .before .before .before .before in
     let free = unbarred must in
     listed-lost _ _ (sizes (header free)) _ _ _ _ _ (keysOf (at .first-path .result)) (free .ends-of .ensures .0) (free .ends-of .ensures .1)
-    (must .ends-of2 .ensures .0) (must .ends-of2 .ensures .1) (at .before .before .before .before .before .nodes-word .ensures) (at .first-path .ensures)
-    (sym (c .before .before .before .steps .ensures) ∙ c .before .before .if1 .left) (sym (c .before .musts-on .ensures) ∙ c .if2 .left)
+    (must .ends-of2 .ensures .0) (must .ends-of2 .ensures .1) (at .before .before .before .before .before .nodes-word .ensures) (at .first-path .ensures .1)
+    (sym (steps (c .before .before .before)) ∙ c .before .before .if1 .left) (sym (c .before .musts-on .ensures) ∙ c .if2 .left)
 
 pub listed-spec : {M : Type 1} → statement M
 listed-spec =
@@ -135,7 +145,7 @@ listed-spec =
     array-share-prefix-tails
     slice-aggregate-first-path-4
     first-path-requires
-    steps-requires
+    length-requires
     returns-2
     musts-on-requires
     returns-3

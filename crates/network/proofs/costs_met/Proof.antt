@@ -1,36 +1,33 @@
 -- The loop's invariant: check 7 comes to what it comes to from row r on.
-use mathlib.Core.Path.{_∙_, _≡_, ap, sym}
+use mathlib.Core.Path.{_∙_, _≡_, sym}
 use Prim.Native.Nat.{_-_}
 use borrow.Author.Needs.{needs}
 use borrow.Author.Tests.{not-false, not-true}
 use Rattle.lists.proofs.Ranges.{all-range-end, all-range-next, all-range-stop}
 use Rattle.lists.specs.Lists.{all, range}
-use Rattle.network_file.specs.File.{Sizes, costsMet}
+use Rattle.network_file.specs.File.{costsMet}
 use Rattle.network.proofs.Laws.{costs-start, costsAt}
 use Rattle.network.proofs.costs_met.Statement.{statement}
 use Rattle.network.proofs.costs_met.Tie as tie
 
 abbrev Inv-loop : tie.InvT-loop
-Inv-loop file m r₀ r = costsMet file ≡ all (costsAt file) (range r (m - r))
+Inv-loop file header m r₀ r = costsMet file ≡ all (costsAt file) (range r (m - r))
 
 abbrev μ-loop : tie.MeasureT-loop
-μ-loop file m r₀ r = m - r
-
-header-of-requires : tie.Need-header-of-requires Inv-loop μ-loop
-header-of-requires c κs = search needs
+μ-loop file header m r₀ r = m - r
 
 cast-m : tie.Need-cast-m Inv-loop μ-loop
 cast-m c = search needs
 
 loop-holds : tie.Need-loop-holds Inv-loop μ-loop
-loop-holds c = costs-start _ _ (c .before .header-of .ensures)
+loop-holds c = costs-start _ _ (c .before .before .pre)
 
 costs-sound-requires : tie.Need-costs-sound-requires Inv-loop μ-loop
-costs-sound-requires c κs = rw (ap (λ (s : Sizes). s .m) (c .before .before .before .header-of .ensures)) at (c .loop-test .taken)
+costs-sound-requires c κs = search needs
 
 -- what the code asks of row r is what check 7 asks
 asked : (c : tie.After-costs-sound Inv-loop μ-loop)
-    → costsAt (c .before .before .before .before .before .before .args .file .now) (c .before .before .loop .r) ≡ c .costs-sound .result
+    → costsAt (c .before .before .before .before .before .args .file .now) (c .before .before .loop .r) ≡ c .costs-sound .result
 unfolding costsAt
 asked c = sym (c .costs-sound .ensures)
 
@@ -58,7 +55,6 @@ costs-met-spec =
     (tie.spec
     Inv-loop
     μ-loop
-    header-of-requires
     cast-m
     loop-holds
     costs-sound-requires

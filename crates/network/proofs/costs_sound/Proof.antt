@@ -7,7 +7,7 @@ use borrow.Author.Tests.{le-leb, lt-leb}
 use Rattle.lists.proofs.Ranges.{all-range-end, all-range-next, all-range-stop}
 use Rattle.lists.specs.Lists.{all, range}
 use Rattle.network_file.specs.File.{costsSound, rowIn}
-use Rattle.network.proofs.Laws.{cost-asked, costFine, costs-row-start}
+use Rattle.network.proofs.Laws.{cost-read, costFine, costs-row-start}
 use Rattle.network.proofs.costs_sound.Statement.{statement}
 use Rattle.network.proofs.costs_sound.Tie as tie
 
@@ -17,14 +17,11 @@ Inv-loop file row k c₀ c = costsSound (rowIn file row) ≡ all (costFine file 
 abbrev μ-loop : tie.MeasureT-loop
 μ-loop file row k c₀ c = k - c
 
-byte-at-requires : tie.Need-byte-at-requires Inv-loop μ-loop
-byte-at-requires c κs = search needs
-
 cast-k : tie.Need-cast-k Inv-loop μ-loop
 cast-k c = search needs
 
 loop-holds : tie.Need-loop-holds Inv-loop μ-loop
-loop-holds c = costs-row-start _ _ _ (c .byte-at .ensures)
+loop-holds c = costs-row-start _ _ (c .before .before .pre .0) (c .before .before .args .row)
 
 cost-at-requires : tie.Need-cost-at-requires Inv-loop μ-loop
 cost-at-requires c κs = search needs
@@ -34,13 +31,13 @@ asked : (c : tie.After-cost-at Inv-loop μ-loop)
     → costFine (c .before .before .before .before .before .args .file .now) (c .before .before .before .before .before .args .row) (c .before .before .loop .c)
     ≡ leb (c .cost-at .result) 1000000
 asked c =
-    cost-asked _ _ _ (c .before .before .before .byte-at .ensures) (c .before .before .loop .c) (c .cost-at .result)
-    (c .before .before .before .before .before .pre) (c .before .loop-test .taken) (c .cost-at .ensures)
+    let a = c .before .before .before .before .before in
+    cost-read _ _ (a .pre .0) (a .args .row) (c .before .before .loop .c) (c .cost-at .result) (a .pre .1) (c .before .loop-test .taken) (c .cost-at .ensures)
 
 returns : tie.Need-returns Inv-loop μ-loop
 returns c =
     sym (c .before .before .before .loop .inv ∙ all-range-stop _ _ _ (c .before .before .loop-test .taken)
-    (asked (c .before) ∙ lt-leb _ _ (c .if1 .taken)))
+    (asked (c .before) ∙ lt-leb _ 1000000 (c .if1 .taken)))
 
 add-c : tie.Need-add-c Inv-loop μ-loop
 add-c c = search needs
@@ -50,7 +47,7 @@ loop-less c = search needs
 
 loop-again : tie.Need-loop-again Inv-loop μ-loop
 loop-again c =
-    c .before .before .before .loop .inv ∙ all-range-next _ _ _ (c .before .before .loop-test .taken) (asked (c .before) ∙ le-leb _ _ (c .if1 .left))
+    c .before .before .before .loop .inv ∙ all-range-next _ _ _ (c .before .before .loop-test .taken) (asked (c .before) ∙ le-leb _ 1000000 (c .if1 .left))
 
 returns-2 : tie.Need-returns-2 Inv-loop μ-loop
 returns-2 c = sym (c .before .loop .inv ∙ all-range-end _ _ _ (c .loop-test .left))
@@ -61,7 +58,6 @@ costs-sound-spec =
     (tie.spec
     Inv-loop
     μ-loop
-    byte-at-requires
     cast-k
     loop-holds
     cost-at-requires

@@ -16,14 +16,11 @@ Inv-loop file n m r₀ r = endsMet file ≡ all (endsAt file) (range r (m - r))
 abbrev μ-loop : tie.MeasureT-loop
 μ-loop file n m r₀ r = m - r
 
-header-of-requires : tie.Need-header-of-requires Inv-loop μ-loop
-header-of-requires c κs = search needs
-
 cast-m : tie.Need-cast-m Inv-loop μ-loop
 cast-m c = search needs
 
 loop-holds : tie.Need-loop-holds Inv-loop μ-loop
-loop-holds c = ends-start _ _ (c .before .header-of .ensures)
+loop-holds c = ends-start _ _ (c .before .before .pre)
 
 row-at-requires : tie.Need-row-at-requires Inv-loop μ-loop
 row-at-requires c κs = search needs
@@ -33,10 +30,10 @@ ends-sound-requires c κs = search needs
 
 -- what the code asks of row r is what check 6 asks
 asked : (c : tie.After-ends-sound Inv-loop μ-loop)
-    → endsAt (c .before .before .before .before .before .before .before .args .file .now) (c .before .before .before .loop .r) ≡ c .ends-sound .result
+    → endsAt (c .before .before .before .before .before .before .args .file .now) (c .before .before .before .loop .r) ≡ c .ends-sound .result
 asked c =
     sym (c .ends-sound .ensures
-    ∙ ends-read _ _ (c .before .before .before .before .before .header-of .ensures) (c .before .before .before .loop .r) (c .before .row-at .result)
+    ∙ ends-read _ _ (c .before .before .before .before .before .before .pre) (c .before .before .before .loop .r) (c .before .row-at .result)
     (c .before .before .loop-test .taken) (c .before .row-at .ensures))
 
 returns : tie.Need-returns Inv-loop μ-loop
@@ -64,7 +61,6 @@ ends-met-spec =
     (tie.spec
     Inv-loop
     μ-loop
-    header-of-requires
     cast-m
     loop-holds
     row-at-requires

@@ -1,13 +1,12 @@
 -- The loop's invariant: check 5 comes to what it comes to from byte c on.
-use mathlib.Core.Path.{_∙_, _≡_, ap, sym}
+use mathlib.Core.Path.{_∙_, _≡_, sym}
 use Prim.Native.Nat.{_-_}
 use borrow.Author.Needs.{needs}
+use borrow.Author.Tests.{le-leb, lt-leb}
 use Rattle.lists.proofs.Ranges.{all-range-end, all-range-next, all-range-stop}
 use Rattle.lists.specs.Lists.{all, range}
-use Rattle.network.specs.Answers.{kindIn}
-use Rattle.network_file.specs.File.{isKind, kindsMet}
-use Rattle.network.specs.declared.ByteKind.{ByteKind}
-use Rattle.network.proofs.Laws.{kind-read, kindAt, kinds-start, known}
+use Rattle.network_file.specs.File.{kindsMet}
+use Rattle.network.proofs.Laws.{kind-read, kindAt, kinds-start}
 use Rattle.network.proofs.kinds_met.Statement.{statement}
 use Rattle.network.proofs.kinds_met.Tie as tie
 
@@ -17,36 +16,21 @@ Inv-loop file k c₀ c = kindsMet file ≡ all (kindAt file) (range c (k - c))
 abbrev μ-loop : tie.MeasureT-loop
 μ-loop file k c₀ c = k - c
 
-byte-at-requires : tie.Need-byte-at-requires Inv-loop μ-loop
-byte-at-requires c κs = search needs
-
 cast-k : tie.Need-cast-k Inv-loop μ-loop
 cast-k c = search needs
 
 loop-holds : tie.Need-loop-holds Inv-loop μ-loop
-loop-holds c = kinds-start _ _ (c .byte-at .ensures)
+loop-holds c = kinds-start _ _ (c .before .before .pre)
 
 add-byte-at : tie.Need-add-byte-at Inv-loop μ-loop
 add-byte-at c = search needs
 
-byte-at-requires-2 : tie.Need-byte-at-requires-2 Inv-loop μ-loop
-byte-at-requires-2 c κs = search needs
-
-kind-of-requires : tie.Need-kind-of-requires Inv-loop μ-loop
-kind-of-requires c κs = search needs
-
-enum-told : tie.Need-enum-told Inv-loop μ-loop
-enum-told c = search needs
-
--- what the code asks of byte c is what check 5 asks
-asked : (c : tie.After-kind-of Inv-loop μ-loop)
-    → kindAt (c .before .before .before .before .before .before .args .file .now) (c .before .before .before .loop .c) ≡ isKind (kindIn (c .kind-of .result))
-asked c = kind-read _ _ _ (c .kind-of .result) (c .before .byte-at2 .ensures) (c .kind-of .ensures)
+byte-at-requires : tie.Need-byte-at-requires Inv-loop μ-loop
+byte-at-requires c κs = search needs
 
 returns : tie.Need-returns Inv-loop μ-loop
 returns c =
-    sym (c .before .before .before .before .before .loop .inv ∙ all-range-stop _ _ _ (c .before .before .before .before .loop-test .taken)
-    (asked (c .before .before) ∙ ap (λ (k : ByteKind). isKind (kindIn k)) (c .enum-told .given .1)))
+    sym (c .before .before .before .loop .inv ∙ all-range-stop _ _ _ (c .before .before .loop-test .taken) (kind-read _ _ _ (c .before .byte-at .ensures) ∙ lt-leb _ _ (c .if1 .taken)))
 
 add-c : tie.Need-add-c Inv-loop μ-loop
 add-c c = search needs
@@ -56,8 +40,7 @@ loop-less c = search needs
 
 loop-again : tie.Need-loop-again Inv-loop μ-loop
 loop-again c =
-    c .before .before .before .before .loop .inv ∙ all-range-next _ _ _ (c .before .before .before .loop-test .taken)
-    (asked (c .before) ∙ known (c .before .kind-of .result) (c .match .keys2))
+    c .before .before .before .loop .inv ∙ all-range-next _ _ _ (c .before .before .loop-test .taken) (kind-read _ _ _ (c .before .byte-at .ensures) ∙ le-leb _ _ (c .if1 .left))
 
 returns-2 : tie.Need-returns-2 Inv-loop μ-loop
 returns-2 c = sym (c .before .loop .inv ∙ all-range-end _ _ _ (c .loop-test .left))
@@ -68,13 +51,10 @@ kinds-met-spec =
     (tie.spec
     Inv-loop
     μ-loop
-    byte-at-requires
     cast-k
     loop-holds
     add-byte-at
-    byte-at-requires-2
-    kind-of-requires
-    enum-told
+    byte-at-requires
     returns
     add-c
     loop-less

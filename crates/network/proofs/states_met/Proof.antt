@@ -5,8 +5,8 @@ use borrow.Author.Needs.{needs}
 use Rattle.lists.proofs.Ranges.{all-range-end, all-range-next, all-range-stop}
 use Rattle.lists.specs.Lists.{all, range}
 use Rattle.network_file.specs.File.{isState, statesMet}
-use Rattle.network.specs.Answers.{stateNamed}
-use Rattle.network.specs.declared.ByteState.{ByteState}
+use Rattle.fields.specs.Fields.{stateNamed}
+use Rattle.fields.specs.declared.ByteState.{ByteState}
 use Rattle.network.proofs.Laws.{state-read, stateAt, states-start}
 use Rattle.network.proofs.states_met.Statement.{statement}
 use Rattle.network.proofs.states_met.Tie as tie
@@ -17,14 +17,8 @@ Inv-loop file m r₀ r = statesMet file ≡ all (stateAt file) (range r (m - r))
 abbrev μ-loop : tie.MeasureT-loop
 μ-loop file m r₀ r = m - r
 
-header-of-requires : tie.Need-header-of-requires Inv-loop μ-loop
-header-of-requires c κs = search needs
-
-cast-m : tie.Need-cast-m Inv-loop μ-loop
-cast-m c = search needs
-
 loop-holds : tie.Need-loop-holds Inv-loop μ-loop
-loop-holds c = states-start _ _ (c .before .header-of .ensures)
+loop-holds c = states-start _ _ (c .before .pre)
 
 state-byte-requires : tie.Need-state-byte-requires Inv-loop μ-loop
 state-byte-requires c κs = search needs
@@ -37,7 +31,7 @@ enum-told c = search needs
 
 -- what the code asks of row r is what check 14 asks
 asked : (c : tie.After-state-of Inv-loop μ-loop)
-    → stateAt (c .before .before .before .before .before .before .before .args .file .now) (c .before .before .before .loop .r) ≡ isState (stateNamed (c .state-of .result))
+    → stateAt (c .before .before .before .before .before .args .file .now) (c .before .before .before .loop .r) ≡ isState (stateNamed (c .state-of .result))
 asked c = state-read _ _ _ (c .state-of .result) (c .before .state-byte .ensures) (c .state-of .ensures)
 
 returns : tie.Need-returns Inv-loop μ-loop
@@ -68,8 +62,6 @@ states-met-spec =
     (tie.spec
     Inv-loop
     μ-loop
-    header-of-requires
-    cast-m
     loop-holds
     state-byte-requires
     state-of-requires

@@ -13,28 +13,13 @@ returns c =
     let s = c .before .before .before .before .before .before .before .before .before in
     rw (c .following .ensures) (start-following (s .pre .0) (s .args .start .now) (omega arith) (s .pre .1))
 
-start-requires : tie.Need-start-requires
-start-requires c κs = search needs
-
-fresh-after-requires : tie.Need-fresh-after-requires
-fresh-after-requires c κs = search needs
-
-grown-with-requires : tie.Need-grown-with-requires
-grown-with-requires c κs = search needs
+first-path-requires : tie.Need-first-path-requires
+first-path-requires c κs = search needs
 
 returns-2 : tie.Need-returns-2
 returns-2 c =
-    let s = c .before .before .before .before .before .before .before .before .before .before .before in
-    start-first (s .pre .0) (s .args .start .now) (c .before .before .start .result) (c .grown-with .result) (c .before .fresh-after .result)
-    (c .before .before .before .if1 .left) (c .before .before .start .ensures) (c .before .fresh-after .ensures) (c .grown-with .ensures .1)
+    let s = c .before .before .before .before .before .before .before .before .before in
+    start-first (s .pre .0) (s .args .start .now) (c .first-path .result) (c .before .if1 .left) (c .first-path .ensures .1)
 
 pub behind-spec : {M : Type 1} → statement M
-behind-spec =
-    tie.close
-    (tie.spec
-    following-requires
-    returns
-    start-requires
-    fresh-after-requires
-    grown-with-requires
-    returns-2)
+behind-spec = tie.close (tie.spec following-requires returns first-path-requires returns-2)

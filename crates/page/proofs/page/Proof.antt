@@ -6,7 +6,8 @@ use borrow.Author.Needs.{needs}
 use borrow.Author.Tests.{eq-eqb, ne-eqb}
 use Rattle.checks.specs.Checks.{Outcome, firstUnmet}
 use Rattle.listed.proofs.Answers.{Lists, answered-by, refused-by}
-use Rattle.network.specs.Answers.{openedOf, sizesIn}
+use Rattle.fields.specs.Fields.{sizesIn}
+use Rattle.network.specs.Answers.{openedOf}
 use Rattle.network_file.specs.File.{networkOf}
 use Rattle.operations.specs.Operations.{Paged, startChecks}
 use Rattle.page.specs.Answers.{refusedBy}

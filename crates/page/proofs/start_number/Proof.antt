@@ -16,21 +16,21 @@ returns-2 c met =
     let d = c .before .before in
     start-drawn _ met (d .before .before .before .before .args .start .now) (d .drawn .result) (d .drawn .ensures) (d .before .if1 .left) (c .if2 .taken)
 
-written-requires : tie.Need-written-requires
-written-requires c κs = search needs
+is-written-requires : tie.Need-is-written-requires
+is-written-requires c κs = search needs
 
 returns-3 : tie.Need-returns-3
 returns-3 c met =
     let d = c .before .before .before .before in
     start-path _ met (d .before .before .before .before .args .start .now) (d .drawn .result) (d .drawn .ensures) (d .before .if1 .left) (c .before .before .if2 .left)
-    ∙ (rw (← c .before .written .ensures, c .if3 .taken))
+    ∙ (rw (← c .before .is-written .ensures, c .if3 .taken))
 
 returns-4 : tie.Need-returns-4
 returns-4 c met =
     let d = c .before .before .before .before in
     start-path _ met (d .before .before .before .before .args .start .now) (d .drawn .result) (d .drawn .ensures) (d .before .if1 .left) (c .before .before .if2 .left)
-    ∙ (rw (← c .before .written .ensures, c .if3 .left))
+    ∙ (rw (← c .before .is-written .ensures, c .if3 .left))
 
 pub start-number-spec : {M : Type 1} → statement M
 start-number-spec =
-    tie.close (tie.spec returns drawn-requires returns-2 written-requires returns-3 returns-4)
+    tie.close (tie.spec returns drawn-requires returns-2 is-written-requires returns-3 returns-4)

@@ -2,7 +2,8 @@ use mathlib.Core.Path.{_∙_, _≡_, ap, sym}
 use lib.Seq.{length-take-le}
 use borrow.Author.Needs.{needs}
 use Rattle.checks.specs.Checks.{answered}
-use Rattle.network.specs.Answers.{openedOf, sizesIn}
+use Rattle.fields.specs.Fields.{sizesIn}
+use Rattle.network.specs.Answers.{openedOf}
 use Rattle.network_file.specs.File.{openOf}
 use Rattle.reach.specs.Answers.{refusedBy}
 use Rattle.reach.proofs.Opened.{reach-answered, reach-refused, rows-fit}

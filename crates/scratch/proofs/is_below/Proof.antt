@@ -1,3 +1,4 @@
+-- `scratch::is_below` meets its contract.
 use native.Mathlib.Nat.{add-sub-cancel-left}
 use borrow.Author.Needs.{needs}
 use Rattle.scratch.proofs.is_below.Statement.{statement}

@@ -1,6 +1,6 @@
+-- `scratch::offer` meets its contract.
 use mathlib.Core.Path.{_∙_, sym}
 use borrow.Author.Needs.{needs}
-use Rattle.pages.proofs.Pages.{rows-end}
 use Rattle.scratch.proofs.Offers.{next-row-ends, offer-beyond, offer-entered, offer-met, offer-nothing, offer-short, offer-unknown}
 use Rattle.scratch.proofs.offer.Statement.{statement}
 use Rattle.scratch.proofs.offer.Tie as tie
@@ -24,7 +24,7 @@ is-below-requires : tie.Need-is-below-requires
 is-below-requires c κs = next-row-ends _ _ _ (c .before .before .if2 .left)
 
 meets-requires : tie.Need-meets-requires
-meets-requires c κs = rows-end _ _ _ (c .before .before .before .if3 .left)
+meets-requires c κs = search needs
 
 same-length : tie.Need-same-length
 same-length c = search needs

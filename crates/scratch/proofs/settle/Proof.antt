@@ -1,3 +1,4 @@
+-- `scratch::settle` meets its contract.
 use borrow.Author.Needs.{needs}
 use borrow.Author.Tests.{le-ltb, lt-ltb}
 use Rattle.scratch.proofs.settle.Statement.{statement}

@@ -1,4 +1,4 @@
--- `table::close_up` meets its contract: at each turn the rows that stay of the first i stand in the first places.
+-- `table::close_up` meets its contract: at each turn the rows that stay of the first i stand in the first places; there remain count - i.
 use mathlib.Core.Path.{_∙_, _≡_, sym}
 use Prim.Native.Nat.{_-_}
 use native.Mathlib.Omega.{arith}
@@ -56,20 +56,20 @@ loop-again c =
     let s = t .before .before .before .before .before in
     closing-gone (t .before .loop .inv) (s .pre .0) (s .pre .1) (t .loop-test .taken) (sym (c .before .dominates .ensures) ∙ c .if1 .taken)
 
-mul-copy-costs : tie.Need-mul-copy-costs Inv-loop μ-loop
-mul-copy-costs c = omega (arith, room (c .before .before .before .before .before))
+mul-move-costs : tie.Need-mul-move-costs Inv-loop μ-loop
+mul-move-costs c = omega (arith, room (c .before .before .before .before .before))
 
-copy-costs-requires : tie.Need-copy-costs-requires Inv-loop μ-loop
-copy-costs-requires c κs = omega (arith, room (c .before .before .before .before .before))
+move-costs-requires : tie.Need-move-costs-requires Inv-loop μ-loop
+move-costs-requires c κs = search needs
 
-mul-copy-paths : tie.Need-mul-copy-paths Inv-loop μ-loop
-mul-copy-paths c = omega (arith, room (c .before .before .before .before .before .before .before .before .before))
+mul-move-rows : tie.Need-mul-move-rows Inv-loop μ-loop
+mul-move-rows c = omega (arith, room (c .before .before .before .before .before .before .before .before .before))
 
-mul-copy-paths-2 : tie.Need-mul-copy-paths-2 Inv-loop μ-loop
-mul-copy-paths-2 c = omega (arith, room (c .before .before .before .before .before .before .before .before .before))
+mul-move-rows-2 : tie.Need-mul-move-rows-2 Inv-loop μ-loop
+mul-move-rows-2 c = omega (arith, room (c .before .before .before .before .before .before .before .before .before))
 
-copy-paths-requires : tie.Need-copy-paths-requires Inv-loop μ-loop
-copy-paths-requires c κs = omega (arith, room (c .before .before .before .before .before .before .before .before .before))
+move-rows-requires : tie.Need-move-rows-requires Inv-loop μ-loop
+move-rows-requires c κs = search needs
 
 add-kept : tie.Need-add-kept Inv-loop μ-loop
 add-kept c = search needs
@@ -79,8 +79,8 @@ loop-less-2 c = search needs
 
 loop-again-2 : tie.Need-loop-again-2 Inv-loop μ-loop
 loop-again-2 c =
-    let costs = c .before .before .before .before .before .before .copy-costs in
-    let paths = c .before .before .copy-paths in
+    let costs = c .before .before .before .before .before .before .move-costs in
+    let paths = c .before .before .move-rows in
     let stays = c .before .before .before .before .before .before .before .before in
     let t = stays .before .before .before .before in
     let s = t .before .before .before .before .before in
@@ -115,11 +115,11 @@ close-up-spec =
     dominates-requires
     loop-less
     loop-again
-    mul-copy-costs
-    copy-costs-requires
-    mul-copy-paths
-    mul-copy-paths-2
-    copy-paths-requires
+    mul-move-costs
+    move-costs-requires
+    mul-move-rows
+    mul-move-rows-2
+    move-rows-requires
     add-kept
     loop-less-2
     loop-again-2

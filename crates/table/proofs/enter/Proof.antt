@@ -5,18 +5,19 @@ use native.Mathlib.Omega.{arith}
 use borrow.Author.Needs.{needs}
 use lib.ListN.{length}
 use Rattle.pages.specs.Pages.{capacity}
-use Rattle.table.specs.Parts.{metIn, placeIn}
+use Rattle.compare.specs.Compare.{metIn}
+use Rattle.table.specs.Parts.{placeIn}
 use Rattle.table.proofs.Closing.{Bounds}
 use Rattle.table.proofs.Entering.{Fit, costs-fit, enter-full, enter-met, enter-rows, row-fits, unfit-count, unfit-path, unfit-vector, witnesses-fit}
 use Rattle.table.proofs.enter.Statement.{statement}
 use Rattle.table.proofs.enter.Tie as tie
 
 -- the code's room is the capacity of both tables
-room-is : (c : tie.After-least)
+room-is : (c : tie.After-smaller)
     → let a = c .before .before .before .before .before .before .before .args in
-    c .least .result ≡ capacity (length (a .vector .now)) (length (a .path .now)) (a .costs .now) (a .witnesses .now)
+    c .smaller .result ≡ capacity (length (a .vector .now)) (length (a .path .now)) (a .costs .now) (a .witnesses .now)
 unfolding capacity
-room-is c = c .least .ensures
+room-is c = c .smaller .ensures
 
 fit : (c : tie.Else3)
     → let a = c .before .before .before .before .before .before .before .before .args in
@@ -36,7 +37,7 @@ fits : (c : tie.Else5)
 fits c =
     let closed = c .before .before .before .before .before in
     let found = closed .before .before .before .before .before .before in
-    row-fits (fit found) (closed .close-up .ensures) (rw (room-is (found .before)) at (c .if5 .left)) (closed .close-up .kept .0) (closed .close-up .kept .1 .0)
+    row-fits (fit found) (closed .close-up .ensures) (rw (room-is (found .before)) at (c .if5 .left))
 
 spaces : (c : tie.After-place-of)
     → let closed = c .before .before .before .before .before .before .before in
@@ -51,20 +52,20 @@ returns c = unfit-vector _ _ _ _ _ (c .if1 .taken)
 returns-2 : tie.Need-returns-2
 returns-2 c = unfit-path _ _ _ _ _ (c .before .if1 .left) (c .if2 .taken)
 
-div-least : tie.Need-div-least
-div-least c = search needs
+div-smaller : tie.Need-div-smaller
+div-smaller c = search needs
 
-div-least-2 : tie.Need-div-least-2
-div-least-2 c = search needs
+div-smaller-2 : tie.Need-div-smaller-2
+div-smaller-2 c = search needs
 
-least-requires : tie.Need-least-requires
-least-requires c κs = search needs
+smaller-requires : tie.Need-smaller-requires
+smaller-requires c κs = search needs
 
 returns-3 : tie.Need-returns-3
 returns-3 c = unfit-count _ _ _ _ _ (c .before .before .before .if1 .left) (c .before .before .if2 .left) (rw (room-is (c .before)) at (c .if3 .taken))
 
 meets-requires : tie.Need-meets-requires
-meets-requires c κs = let f = fit (c .before) in costs-fit f _ (f .enough)
+meets-requires c κs = search needs
 
 same-length : tie.Need-same-length
 same-length c = search needs
@@ -97,16 +98,16 @@ mul-insert-costs-2 : tie.Need-mul-insert-costs-2
 mul-insert-costs-2 c = omega (arith, spaces (c .before))
 
 insert-costs-requires : tie.Need-insert-costs-requires
-insert-costs-requires c κs = omega (arith, spaces (c .before))
+insert-costs-requires c κs = search needs
 
-mul-insert-path : tie.Need-mul-insert-path
-mul-insert-path c = omega (arith, spaces (c .before .before .before .before .before))
+mul-insert-rows : tie.Need-mul-insert-rows
+mul-insert-rows c = omega (arith, spaces (c .before .before .before .before .before))
 
-mul-insert-path-2 : tie.Need-mul-insert-path-2
-mul-insert-path-2 c = omega (arith, spaces (c .before .before .before .before .before))
+mul-insert-rows-2 : tie.Need-mul-insert-rows-2
+mul-insert-rows-2 c = omega (arith, spaces (c .before .before .before .before .before))
 
-insert-path-requires : tie.Need-insert-path-requires
-insert-path-requires c κs = omega (arith, spaces (c .before .before .before .before .before))
+insert-rows-requires : tie.Need-insert-rows-requires
+insert-rows-requires c κs = search needs
 
 add-t12 : tie.Need-add-t12
 add-t12 c = search needs
@@ -122,7 +123,7 @@ returns-6 c =
     let some = c .before .before .before .before .before .before .before .before .before .before in
     let closed = some .before .before .before .before .before in
     let found = closed .before .before .before .before .before .before in
-    rw (c .before .before .before .before .before .before .insert-costs .ensures, c .before .before .insert-path .ensures, c .before .before .before .before .before .before .before .before .place-of .ensures)
+    rw (c .before .before .before .before .before .before .insert-costs .ensures, c .before .before .insert-rows .ensures, c .before .before .before .before .before .before .before .before .place-of .ensures)
     (enter-rows (fit found) (closed .close-up .ensures) (unmet (closed .before .before .before)) (rw (room-is (found .before)) at (some .if5 .left)))
 
 pub enter-spec : {M : Type 1} → statement M
@@ -131,9 +132,9 @@ enter-spec =
     (tie.spec
     returns
     returns-2
-    div-least
-    div-least-2
-    least-requires
+    div-smaller
+    div-smaller-2
+    smaller-requires
     returns-3
     meets-requires
     same-length
@@ -146,9 +147,9 @@ enter-spec =
     mul-insert-costs
     mul-insert-costs-2
     insert-costs-requires
-    mul-insert-path
-    mul-insert-path-2
-    insert-path-requires
+    mul-insert-rows
+    mul-insert-rows-2
+    insert-rows-requires
     add-t12
     same-length-4
     same-length-5

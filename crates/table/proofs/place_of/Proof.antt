@@ -1,4 +1,4 @@
--- `table::place_of` meets its contract: at each turn the answer is that of the rows from row i on.
+-- `table::place_of` meets its contract: at each turn the answer is that of the rows from row i on; there remain count - i.
 use mathlib.Core.Path.{_∙_, _≡_, ap, sym}
 use Prim.Native.Nat.{_*_, _+_, _-_, _≤_}
 use native.Mathlib.Nat.{zero-add}
@@ -7,7 +7,8 @@ use borrow.Author.Needs.{needs}
 use lib.ListN.{length}
 use Rattle.costs.specs.Costs.{vectorLess}
 use Rattle.table.specs.Parts.{before, placeIn}
-use Rattle.table.proofs.Rows.{before-end, before-more, before-stop, rest, rest-start, row-ends}
+use Rattle.compare.proofs.Rows.{rest, rest-start, row-ends}
+use Rattle.table.proofs.Rows.{before-end, before-more, before-stop}
 use Rattle.table.proofs.place_of.Statement.{statement}
 use Rattle.table.proofs.place_of.Tie as tie
 

@@ -1,7 +1,7 @@
 -- `treelist::print_file` is safe and ends: Open tells the sizes, and the first page that there is a tree.
 use native.Mathlib.Omega.{arith}
 use borrow.Author.Needs.{needs}
-use Rattle.treelist.proofs.Laws.{answered-given, nodes-in, opened-met}
+use Rattle.treelist.proofs.Laws.{answered-given, opened-met, sizes-in}
 use Rattle.treelist.proofs.print_file.Statement.{statement}
 use Rattle.treelist.proofs.print_file.Tie as tie
 
@@ -15,7 +15,7 @@ first-tree-requires : tie.Need-first-tree-requires
 first-tree-requires c κs =
     let f = c .before .before .before .before .before .args .file .now in
     let (met, sizes) = opened-met f (c .before .opened .given .1) (c .before .before .before .«open» .ensures) in
-    let (low, high) = nodes-in f met sizes in
+    let (low, high, criteria) = sizes-in f met sizes in
     (omega arith, high)
 
 enum-told : tie.Need-enum-told

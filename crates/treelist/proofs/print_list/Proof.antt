@@ -6,7 +6,7 @@ use lib.ListN.{length, length-take, take}
 use borrow.Author.Needs.{needs}
 use Rattle.pages.specs.Pages.{restAfter}
 use Rattle.operations.specs.Operations.{layoutsIn}
-use Rattle.treelist.proofs.Laws.{Called, copied-on, given-nodes, last-page, not-refused, page-left}
+use Rattle.treelist.proofs.Laws.{Called, copied-on, last-page, not-refused, page-left}
 use Rattle.treelist.proofs.Run.{More, Run, run-start}
 use Rattle.treelist.proofs.print_list.Statement.{statement}
 use Rattle.treelist.proofs.print_list.Tie as tie
@@ -49,7 +49,8 @@ moved : (c : tie.After-by-value Inv-loop μ-loop) →
     Run f next (c .before .before .before .before .held .result)
     × (length (restAfter (layoutsIn f) next) < length (restAfter (layoutsIn f) (take (head p .loop .len) (head p .loop .start))))
 moved c =
-    copied-on (c .by-value .result) _ (given-nodes (entry (c .before .before .before .before .before .before .before .before .before .before .before .before) .pre .0)) (left (c .before .before)) (c .before .pick .ensures) (c .by-value .ensures .1) (c .before .before .before .before .held .ensures)
+    let given = entry (c .before .before .before .before .before .before .before .before .before .before .before .before) .pre .0 in
+    copied-on (c .by-value .result) _ (given .low) (given .high) (left (c .before .before)) (c .before .pick .ensures) (c .by-value .ensures .1) (c .before .before .before .before .held .ensures)
 
 cast-k : tie.Need-cast-k Inv-loop μ-loop
 cast-k c = search needs
@@ -58,7 +59,7 @@ cast-width : tie.Need-cast-width Inv-loop μ-loop
 cast-width c = search needs
 
 sub-width : tie.Need-sub-width Inv-loop μ-loop
-sub-width c = omega (arith, given-nodes (c .before .before .before .before .before .pre .0) .0)
+sub-width c = search needs
 
 loop-holds : tie.Need-loop-holds Inv-loop μ-loop
 loop-holds c = (omega arith, refl, refl, run-start _)
@@ -111,7 +112,7 @@ loop-less c = moved c .1
 loop-again : tie.Need-loop-again Inv-loop μ-loop
 loop-again c =
     let p : tie.After-page Inv-loop μ-loop = c .before .before .before .before .before .before .before .before .before .before .before .before in
-    (omega (arith, given-nodes (entry p .pre .0) .1), c .by-value .ensures .0, omega (arith, p .page .kept .1 .0), moved c .0)
+    (omega (arith, entry p .pre .0 .high), c .by-value .ensures .0, omega (arith, p .page .kept .1 .0), moved c .0)
 
 pub print-list-spec : {M : Type 1} → statement M
 print-list-spec =

@@ -1,25 +1,22 @@
--- The loop's invariant: the places below `at` are filled.
-use mathlib.Core.Path.{refl}
+-- `trials::fill` is safe and ends: the file keeps its length, and the measure is the bytes left.
+use mathlib.Core.Path.{_≡_}
 use Prim.Native.Nat.{_-_}
-use native.Mathlib.Omega.{arith}
 use lib.ListN.{length}
 use borrow.Author.Needs.{needs}
-use Rattle.lists.proofs.Ranges.{Written, written-all, written-next, written-start}
-use Rattle.trials.specs.Files.{byteBy, filled}
 use Rattle.trials.proofs.fill.Statement.{statement}
 use Rattle.trials.proofs.fill.Tie as tie
 
 abbrev Inv-loop : tie.InvT-loop
-Inv-loop file₀ head ends costs k at₀ file at = Written (byteBy head ends costs k) 0 (length file₀) file at
+Inv-loop file₀ first at₀ file at = length file ≡ length file₀
 
 abbrev μ-loop : tie.MeasureT-loop
-μ-loop file₀ head ends costs k at₀ file at = length file₀ - at
+μ-loop file₀ first at₀ file at = length file₀ - at
 
 loop-holds : tie.Need-loop-holds Inv-loop μ-loop
-loop-holds c = written-start _ refl
+loop-holds c = search needs
 
-byte-by-requires : tie.Need-byte-by-requires Inv-loop μ-loop
-byte-by-requires c κs = search needs
+byte-of-requires : tie.Need-byte-of-requires Inv-loop μ-loop
+byte-of-requires c κs = search needs
 
 slice-write-file : tie.Need-slice-write-file Inv-loop μ-loop
 slice-write-file c = search needs
@@ -31,14 +28,13 @@ loop-less : tie.Need-loop-less Inv-loop μ-loop
 loop-less c = search needs
 
 loop-again : tie.Need-loop-again Inv-loop μ-loop
-loop-again c = written-next (c .before .before .loop .inv) _ (omega arith) (c .byte-by .ensures)
+loop-again c = search needs
 
 same-length : tie.Need-same-length Inv-loop μ-loop
 same-length c = search needs
 
 returns : tie.Need-returns Inv-loop μ-loop
-unfolding filled
-returns c = written-all (c .before .loop .inv) (omega arith)
+returns c = search needs
 
 pub fill-spec : {M : Type 1} → statement M
 fill-spec =
@@ -47,7 +43,7 @@ fill-spec =
     Inv-loop
     μ-loop
     loop-holds
-    byte-by-requires
+    byte-of-requires
     slice-write-file
     add-at
     loop-less

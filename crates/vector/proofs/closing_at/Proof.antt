@@ -1,8 +1,14 @@
 -- The three cases of `closingStep`: street 0, a street that comes later again, the last row of a street.
-use mathlib.Core.Path.{_∙_, sym}
+use mathlib.Core.Path.{_∙_, _≡_, sym}
+use mathlib.Core.Bool.{false}
+use Prim.Native.Nat.{_+_}
+use lib.ListN.{drop}
 use borrow.Author.Needs.{needs}
 use borrow.Author.Tests.{eq-eqb, ne-eqb}
-use Rattle.vector.specs.Vector.{closingAt, closingStep}
+use Rattle.lists.specs.Lists.{any}
+use Rattle.network_file.specs.File.{networkOf}
+use Rattle.paths.specs.Path.{rowsIn}
+use Rattle.vector.specs.Vector.{closingAt, closingStep, liesIn}
 use Rattle.vector.proofs.closing_at.Statement.{statement}
 use Rattle.vector.proofs.closing_at.Tie as tie
 
@@ -22,6 +28,12 @@ add-comes-later c = search needs
 comes-later-requires : tie.Need-comes-later-requires
 comes-later-requires c κs = search needs
 
+-- no row behind step i lies in its street
+none-later : (c : tie.Else2)
+    → let a = c .before .before .before .before .before .args in
+    any (liesIn (networkOf (a .file .now)) (c .before .before .before .street-of .result)) (drop (a .i + 1) (rowsIn (a .path))) ≡ false
+none-later c = sym (c .before .comes-later .ensures) ∙ c .if2 .left
+
 returns-2 : tie.Need-returns-2
 unfolding closingAt closingStep
 returns-2 c =
@@ -33,7 +45,7 @@ street-cost-requires c κs = search needs
 returns-3 : tie.Need-returns-3
 unfolding closingAt closingStep
 returns-3 c =
-    rw (← c .before .before .before .before .street-of .ensures, ne-eqb _ _ (c .before .before .before .if1 .left), sym (c .before .before .comes-later .ensures) ∙ c .before .if2 .left)
+    rw (← c .before .before .before .before .street-of .ensures, ne-eqb _ _ (c .before .before .before .if1 .left), none-later (c .before))
     (c .street-cost .ensures)
 
 pub closing-at-spec : {M : Type 1} → statement M

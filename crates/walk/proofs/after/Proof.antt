@@ -10,8 +10,8 @@ use denote.Ref.{now}
 use Rattle.paths.specs.Path.{keysOf, plantOf}
 use Rattle.paths.proofs.Laws.{keys-length}
 use Rattle.search.specs.Search.{orElse}
-use Rattle.walk.specs.Walk.{afterFrom, afterOf, nextOf}
-use Rattle.walk.proofs.Laws.{after-back, after-over, after-start, next-none, next-some}
+use Rattle.walk.specs.Walk.{afterFrom, afterOf, nextOf, pathOr}
+use Rattle.walk.proofs.Laws.{after-back, after-over, after-start, next-keys, next-none, next-some}
 use Rattle.walk.proofs.after.Statement.{statement}
 use Rattle.walk.proofs.after.Tie as tie
 
@@ -77,7 +77,9 @@ asked c =
     (c .before .before .before .before .before .node-at .ensures) (c .before .before .before .before .row-at .ensures) steps (part .1))
 
 returns : tie.Need-returns Inv-loop μ-loop
-returns c = (c .before .skip .ensures .0 ∙ c .before .before .shortened2 .ensures .0, next-some _ _ (c .if2 .taken) ∙ sym (asked (c .before)))
+returns c =
+    let found = next-some _ _ (c .if2 .taken) ∙ sym (asked (c .before)) in
+    (c .before .skip .ensures .0 ∙ c .before .before .shortened2 .ensures .0, found, ap (pathOr _) (next-keys _ (c .if2 .taken) ∙ found))
 
 loop-less : tie.Need-loop-less Inv-loop μ-loop
 loop-less c = search needs
@@ -86,7 +88,9 @@ loop-again : tie.Need-loop-again Inv-loop μ-loop
 loop-again c = asked (c .before) ∙ next-none _ _ (c .if2 .left)
 
 returns-2 : tie.Need-returns-2 Inv-loop μ-loop
-returns-2 c = (refl, sym (c .before .loop .inv ∙ after-over _ _ _ _ _ _ _ _ _ _ _ _ (omega (arith, c .loop-test .left))))
+returns-2 c =
+    let over = sym (c .before .loop .inv ∙ after-over _ _ _ _ _ _ _ _ _ _ _ _ (omega (arith, c .loop-test .left))) in
+    (refl, over, ap (pathOr _) over)
 
 pub after-spec : {M : Type 1} → statement M
 after-spec =

@@ -1,6 +1,7 @@
 -- `printout::Line::number` meets its contract.
 use borrow.Author.Needs.{needs}
-use Rattle.printout.proofs.Laws.{numbered}
+use Rattle.printout.specs.Line.{shown}
+use Rattle.printout.proofs.Numbers.{number-behind, spelled}
 use Rattle.printout.proofs.Line.number.Statement.{statement}
 use Rattle.printout.proofs.Line.number.Tie as tie
 
@@ -23,7 +24,10 @@ text-requires-2 : tie.Need-text-requires-2
 text-requires-2 c κs = search needs
 
 returns : tie.Need-returns
-returns c = numbered (c .before .before .before .before .before .before .args .self) (c .before .before .text .result) (c .text2 .result) _ _ _ (c .before .before .before .before .decimal .ensures .1 .0) (c .before .before .before .before .decimal .ensures .1 .1) (c .before .before .text .ensures) (c .text2 .ensures)
+returns c =
+    let decimal = c .before .before .before .before .decimal .ensures in
+    let args = c .before .before .before .before .before .before .args in
+    number-behind (shown (args .self)) (args .n) (spelled (decimal .1 .0) (decimal .1 .1)) (c .before .before .text .ensures) (c .text2 .ensures)
 
 pub number-spec : {M : Type 1} → statement M
 number-spec =

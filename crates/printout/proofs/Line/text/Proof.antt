@@ -13,11 +13,11 @@ Inv-loop bytes self₀ at₀ i₀ self at i = Putting bytes self₀ self at i
 abbrev μ-loop : tie.MeasureT-loop
 μ-loop bytes self₀ at₀ i₀ self at i = length bytes - i
 
-filled-requires : tie.Need-filled-requires Inv-loop μ-loop
-filled-requires c κs = search needs
+length-requires : tie.Need-length-requires Inv-loop μ-loop
+length-requires c κs = search needs
 
 loop-holds : tie.Need-loop-holds Inv-loop μ-loop
-loop-holds c = none-yet (simp length-map at (c .before .before .good .0 .1 .1 .0 .1 .0 .1)) (c .filled .ensures)
+loop-holds c = none-yet (simp length-map at (c .before .before .good .0 .1 .1 .0 .1 .0 .1)) (c .length .ensures .0)
 
 shared-slice-read-self : tie.Need-shared-slice-read-self Inv-loop μ-loop
 shared-slice-read-self c = search needs
@@ -49,7 +49,7 @@ text-spec =
     (tie.spec
     Inv-loop
     μ-loop
-    filled-requires
+    length-requires
     loop-holds
     shared-slice-read-self
     element-write-self

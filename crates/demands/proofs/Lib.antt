@@ -1,0 +1,5 @@
+pub mod Demands
+pub mod Fronts
+pub mod Pages
+pub mod Refusals
+pub mod Trees

@@ -1,0 +1,194 @@
+-- The three demands on the library, said over the definitions that the contracts cite; `demand-1`, `demand-2` and `demand-3` of proofs/Demands.antt are
+-- their proofs.
+--
+-- On every input an operation equals its definition: that is its contract. The demands speak of the definitions. (tests/tests/contracts.rs holds both
+-- tables to the contracts in src/.)
+--
+-- | function      | definition                      | demands |
+-- |---------------|---------------------------------|---------|
+-- | network::open | network_file File openOf        | 1       |
+-- | reach::reach  | operations Operations reachCall | 1, 2    |
+-- | order::order  | operations Operations orderCall | 1, 2    |
+-- | cost::cost    | operations Operations costCall  | 1, 2    |
+-- | page::page    | operations Operations pageCall  | 1, 3    |
+-- | pick::pick    | operations Operations pickCall  | 3       |
+-- | front::front  | operations Operations frontCall | 1, 3    |
+--
+-- The functions for Rust and C, each with the definition that it hands on:
+--
+-- | function                 | definition                   | hands on  |
+-- |--------------------------|------------------------------|-----------|
+-- | planner_c::planner_open  | planner_c Calls plannerOpen  | openOf    |
+-- | planner_c::planner_reach | planner_c Calls plannerReach | reachCall |
+-- | planner_c::planner_order | planner_c Calls plannerOrder | orderCall |
+-- | planner_c::planner_cost  | planner_c Calls plannerCost  | costCall  |
+-- | planner_c::planner_page  | planner_c Calls plannerPage  | pageCall  |
+-- | planner_c::planner_pick  | planner_c Calls plannerPick  | pickCall  |
+-- | planner_c::planner_front | planner_c Calls plannerFront | frontCall |
+use mathlib.Core.Path.{_≡_}
+use mathlib.Core.Bool.{false}
+use mathlib.Core.Logic.{_↔_}
+use mathlib.Core.List.{List, [], _++_, _∷_, map}
+use mathlib.Core.Option.{none}
+use Prim.Native.Nat.{_*_, _<_, _≤_, min, ℕ}
+use lib.ListN.{drop, getD, length, take}
+use lib.Dec.{T}
+use Rattle.lists.proofs.Distinct.{Distinct}
+use Rattle.lists.proofs.Members.{_∈_, _⊆_}
+use Rattle.lists.proofs.Orders.{Ascending}
+use Rattle.graph.specs.Graph.{isTree, width}
+use Rattle.graph.specs.Paths.{isMinimal, pathLess}
+use Rattle.checks.specs.Checks.{Check, Ended, answered, firstUnmet, refused}
+use Rattle.checks.proofs.Checks.{StopsAt}
+use Rattle.costs.specs.Costs.{costOf, dominates, front, vectorLess}
+use Rattle.costs.specs.Layouts.{keepsStates, mustRows}
+use Rattle.forests.proofs.Forest.{Forest}
+use Rattle.network_file.specs.File.{fileChecks, networkOf, openOf, sizesOf}
+use Rattle.pages.specs.Pages.{capacity, pieces, restAfter}
+use Rattle.operations.specs.Operations.{Fronted, Paged, Reached, costCall, costChecks, frontCall, frontChecks, graphIn, layoutsIn, orderCall, orderChecks, over, pageCall, pageChecks, pickCall, reachCall}
+use Rattle.operations.specs.Runs.{Call, runOf}
+use Rattle.operations.proofs.Runs.{Claim}
+
+-- the file meets all its checks
+abbrev pub Passes : List ℕ → Type 0
+Passes f = firstUnmet (fileChecks f) ≡ none
+
+-- rows that are a tree of the network: a spanning tree with all must rows and no barred row
+abbrev pub Tree : List ℕ → List ℕ → Type 0
+Tree f rows = T (isTree (graphIn f) rows) × T (keepsStates (networkOf f) rows)
+
+-- Demand 1: a fault is refused by the number of the first check not met, and after a refusal every lent buffer is as it was. (That each
+-- operation ends, and reads and writes only what it was lent, is what the checker proves of every function.)
+
+-- a call with these checks that is lent the buffers `before`: it is refused by e exactly if e is the number of the first check not met
+pub record Refuses {A B : Type 0} (cs : List Check) (call : Ended A B) (before : B) : Type 0 where
+  pub first : (e : ℕ) → (call .outcome ≡ refused e) ↔ StopsAt cs e
+  pub kept : (e : ℕ) → call .outcome ≡ refused e → call .buffers ≡ before
+
+-- the file passes, and its network has no tree
+abbrev pub NoTree : List ℕ → Type 0
+NoTree f = Passes f × ((rows : List ℕ) → ¬ Tree f rows)
+
+-- the numbers of a table of checks, in its order
+abbrev pub numbers : List Check → List ℕ
+numbers cs = map (λ c. c .number) cs
+
+abbrev pub fileNumbers : List ℕ
+fileNumbers = 1 ∷ 2 ∷ 3 ∷ 4 ∷ 5 ∷ 6 ∷ 7 ∷ 14 ∷ []
+
+-- those of a path to start after
+abbrev pub startNumbers : List ℕ → List ℕ
+startNumbers [] = []
+startNumbers (r ∷ rs) = 8 ∷ 9 ∷ 10 ∷ 15 ∷ 13 ∷ []
+
+-- Open and Reach are lent nothing to write in
+pub record Demand1 (f rows buffer page start costs witnesses : List ℕ) : Type 0 where
+  pub opens : (e : ℕ) → (openOf f ≡ refused e) ↔ StopsAt (fileChecks f) e
+  pub reaches : (e : ℕ) → (reachCall f ≡ refused e) ↔ StopsAt (fileChecks f) e
+  pub orders : Refuses (orderChecks f rows buffer) (orderCall f rows buffer) buffer
+  pub prices : Refuses (costChecks f rows buffer) (costCall f rows buffer) buffer
+  pub pages : Refuses (pageChecks f page start) (pageCall f page start) page
+  pub fronts : Refuses (frontChecks f costs witnesses) (frontCall f costs witnesses) (record { costs = costs; witnesses = witnesses })
+  -- 12 exactly if there is no tree
+  pub pages-none : (pageCall f page start .outcome ≡ refused 12) ↔ NoTree f
+  pub fronts-none : (frontCall f costs witnesses .outcome ≡ refused 12) ↔ NoTree f
+  -- document 01's order, with 14 and 15 of document 02
+  pub file-order : numbers (fileChecks f) ≡ fileNumbers
+  pub order-order : numbers (orderChecks f rows buffer) ≡ fileNumbers ++ (8 ∷ 9 ∷ 10 ∷ 15 ∷ 11 ∷ [])
+  pub cost-order : numbers (costChecks f rows buffer) ≡ fileNumbers ++ (8 ∷ 9 ∷ 10 ∷ 15 ∷ 11 ∷ [])
+  pub page-order : numbers (pageChecks f page start) ≡ fileNumbers ++ (12 ∷ 11 ∷ startNumbers start)
+  pub front-order : numbers (frontChecks f costs witnesses) ≡ fileNumbers ++ (12 ∷ 11 ∷ [])
+
+-- Demand 2, of a file that passes: each listed layout is a tree of the network, written as its minimal path; each drawn tree is turned into the one
+-- minimal path with exactly its rows; each cost is the defined one, over those rows.
+
+-- a tree exists exactly if Reach's size is n and the must rows have no cycle
+pub record Exists (f : List ℕ) : Type 0 where
+  pub reach : Reached
+  pub reaches : reachCall f ≡ answered reach
+  pub exactly : ((rows : List ℕ) × Tree f rows) ↔ ((reach .size ≡ sizesOf f .n) × Forest (graphIn f) (mustRows (networkOf f)))
+
+-- the one minimal path of a spanning tree, with exactly its rows
+pub record PathOfTree (f rows : List ℕ) : Type 0 where
+  pub path : List ℕ
+  pub minimal : T (isMinimal (graphIn f) path)
+  pub within : path ⊆ rows
+  pub around : rows ⊆ path
+  pub only : (other : List ℕ) → T (isMinimal (graphIn f) other) → other ⊆ rows → rows ⊆ other → other ≡ path
+  -- the list has it exactly if the rows keep the rows' states
+  pub listed : T (keepsStates (networkOf f) rows) ↔ (path ∈ layoutsIn f)
+  pub priced : costOf (networkOf f) rows ≡ costOf (networkOf f) path
+
+-- Order and Cost of a tree of the network, drawn in any sequence, with room for the answer
+pub record Drawn (f rows path : List ℕ) : Type 0 where
+  pub orders : (buffer : List ℕ) → width (graphIn f) ≤ length buffer → orderCall f rows buffer ≡ record { outcome = answered tt; buffers = over path buffer }
+  pub prices : (buffer : List ℕ) → sizesOf f .k ≤ length buffer
+      → costCall f rows buffer ≡ record { outcome = answered tt; buffers = over (costOf (networkOf f) path) buffer }
+
+pub record Demand2 (f : List ℕ) : Type 0 where
+  pub exists : Exists f
+  pub trees-are : (path : List ℕ) → path ∈ layoutsIn f → Tree f path × T (isMinimal (graphIn f) path)
+  pub ascending : Ascending (pathLess (graphIn f)) (layoutsIn f)
+  pub once : Distinct (layoutsIn f)
+  pub each : (rows : List ℕ) → T (isTree (graphIn f) rows) → PathOfTree f rows
+  pub drawn : (rows : List ℕ) (tree : Tree f rows) → Drawn f rows (each rows (tree .0) .path)
+
+-- Demand 3, of a file that passes and whose network has a tree: the run of pages, for every list of calls; and the front beside it.
+
+-- the trees of the network, each once, as their minimal paths
+pub record EveryTree (f : List ℕ) (written : List (List ℕ)) : Type 0 where
+  pub all : written ≡ layoutsIn f
+  pub once : Distinct written
+  pub trees-are : (path : List ℕ) → path ∈ written → Tree f path × T (isMinimal (graphIn f) path)
+  pub each : (rows : List ℕ) → Tree f rows → (path : List ℕ) × (path ∈ written) × (path ⊆ rows) × (rows ⊆ path)
+
+-- what a call of Page that is answered by a leaves, from whatever start: trees of the list, those behind the start, and then the page as it was; and
+-- Pick hands each of them back
+pub record PageFrom (f page start : List ℕ) (a : Paged) : Type 0 where
+  pub written : pieces (width (graphIn f)) (a .count) (pageCall f page start .buffers) ≡ take (a .count) (restAfter (layoutsIn f) start)
+  pub listed : (path : List ℕ) → path ∈ pieces (width (graphIn f)) (a .count) (pageCall f page start .buffers) → path ∈ layoutsIn f
+  pub rest : drop (a .count * width (graphIn f)) (pageCall f page start .buffers) ≡ drop (a .count * width (graphIn f)) page
+  pub picked : (t : ℕ) → t < a .count
+      → pickCall (sizesOf f .n) (pageCall f page start .buffers) t ≡ getD (pieces (width (graphIn f)) (a .count) (pageCall f page start .buffers)) t []
+
+-- v is the cost vector of a tree of the network
+abbrev pub Costs : List ℕ → List ℕ → Type 0
+Costs f v = (rows : List ℕ) × Tree f rows × (costOf (networkOf f) rows ≡ v)
+
+-- The front: exactly the vectors of trees that no tree's vector dominates, ascending, each once.
+pub record FrontIs (f : List ℕ) : Type 0 where
+  pub members : (v : List ℕ) → (v ∈ front (networkOf f)) ↔ (Costs f v × ((rows : List ℕ) → Tree f rows → ¬ T (dominates (costOf (networkOf f) rows) v)))
+  pub ascending : Ascending vectorLess (front (networkOf f))
+  pub once : Distinct (front (networkOf f))
+
+-- p is the first tree of the list that has the vector v: none that stands before it has v.
+pub record FirstTree (f v p : List ℕ) : Type 0 where
+  pub before : List (List ℕ)
+  pub behind : List (List ℕ)
+  pub stands : layoutsIn f ≡ before ++ p ∷ behind
+  pub priced : costOf (networkOf f) p ≡ v
+  pub none-before : (q : List ℕ) → q ∈ before → ¬ (costOf (networkOf f) q ≡ v)
+
+-- Front, with tables that have room for a row: the first vectors of the front, as many as fit, and beside each the first tree of the list that has
+-- it; the rest of both tables as it was; and the mark says truly whether that is all.
+pub record FrontClaim (f costs witnesses : List ℕ) : Type 0 where
+  pub answer : Fronted
+  pub answers : frontCall f costs witnesses .outcome ≡ answered answer
+  pub count : answer .count ≡ min (length (front (networkOf f))) (capacity (sizesOf f .k) (width (graphIn f)) costs witnesses)
+  pub whole : T (answer .whole) ↔ (length (front (networkOf f)) ≤ capacity (sizesOf f .k) (width (graphIn f)) costs witnesses)
+  pub vectors-are : pieces (sizesOf f .k) (answer .count) (frontCall f costs witnesses .buffers .costs) ≡ take (answer .count) (front (networkOf f))
+  -- row by row
+  pub trees-are : (i : ℕ) → i < answer .count
+      → FirstTree f (getD (pieces (sizesOf f .k) (answer .count) (frontCall f costs witnesses .buffers .costs)) i [])
+      (getD (pieces (width (graphIn f)) (answer .count) (frontCall f costs witnesses .buffers .witnesses)) i [])
+  pub costs-rest : drop (answer .count * sizesOf f .k) (frontCall f costs witnesses .buffers .costs) ≡ drop (answer .count * sizesOf f .k) costs
+  pub witnesses-rest : drop (answer .count * width (graphIn f)) (frontCall f costs witnesses .buffers .witnesses) ≡ drop (answer .count * width (graphIn f)) witnesses
+
+pub record Demand3 (f : List ℕ) : Type 0 where
+  pub pages : (pages : List (List ℕ)) → Claim f pages
+  -- once a call says that no tree is to come, what is written is every tree, each once
+  pub complete : (pages : List (List ℕ)) (c : Call) (a : Paged) → c ∈ runOf f pages .calls → c .outcome ≡ answered a → a .more ≡ false
+      → EveryTree f (runOf f pages .written)
+  pub page-from : (page start : List ℕ) (a : Paged) → pageCall f page start .outcome ≡ answered a → PageFrom f page start a
+  pub is-front : FrontIs f
+  pub fronts : (costs witnesses : List ℕ) → sizesOf f .k ≤ length costs → width (graphIn f) ≤ length witnesses → FrontClaim f costs witnesses

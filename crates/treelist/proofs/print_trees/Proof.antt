@@ -1,0 +1,55 @@
+-- `treelist::print_trees` is safe and ends.
+use native.Mathlib.Omega.{arith}
+use lib.ListN.{length-take}
+use borrow.Author.Needs.{needs}
+use Rattle.treelist.proofs.print_trees.Statement.{statement}
+use Rattle.treelist.proofs.print_trees.Tie as tie
+
+ends-of-requires : tie.Need-ends-of-requires
+ends-of-requires c κs = search needs
+
+page-space-requires : tie.Need-page-space-requires
+page-space-requires c κs = search needs
+
+slice-aggregate-page : tie.Need-slice-aggregate-page
+slice-aggregate-page c = search needs
+
+cast-places : tie.Need-cast-places
+cast-places c = search needs
+
+sub-places : tie.Need-sub-places
+sub-places c = search needs
+
+mul-places : tie.Need-mul-places
+mul-places c = search needs
+
+slice-aggregate-print-list : tie.Need-slice-aggregate-print-list
+slice-aggregate-print-list c = search needs
+
+slice-aggregate-print-list-2 : tie.Need-slice-aggregate-print-list-2
+slice-aggregate-print-list-2 c = search needs
+
+slice-aggregate-print-list-3 : tie.Need-slice-aggregate-print-list-3
+slice-aggregate-print-list-3 c = simp length-take (omega arith)
+
+print-list-requires : tie.Need-print-list-requires
+print-list-requires c κs = (c .before .before .before .before .before .before .before .before .before .before .pre, simp length-take (omega arith))
+
+returns : tie.Need-returns
+returns c = search needs
+
+pub print-trees-spec : {M : Type 1} → statement M
+print-trees-spec =
+    tie.close
+    (tie.spec
+    ends-of-requires
+    page-space-requires
+    slice-aggregate-page
+    cast-places
+    sub-places
+    mul-places
+    slice-aggregate-print-list
+    slice-aggregate-print-list-2
+    slice-aggregate-print-list-3
+    print-list-requires
+    returns)

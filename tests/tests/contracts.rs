@@ -1,0 +1,140 @@
+//! The tables in the head of the demands (crates/demands/specs/Demands.antt) held to the contracts in src/: each function's contract is
+//! one equation with the definition that the table names, from the module that it names. So a contract that cites another definition, which
+//! the demands do not speak of, is noticed.
+
+use planner_tests::contracts::{
+    brings, crates, fault, functions, names, sources, tables, text, Row,
+};
+
+fn demands() -> Vec<Vec<Row>> {
+    tables(&text(&crates().join("demands/specs/Demands.antt")))
+}
+
+fn source_of(row: &Row) -> String {
+    let (crate_name, _) = row.function.split_once("::").unwrap();
+    text(&crates().join(crate_name).join("src/lib.rt"))
+}
+
+#[test]
+fn each_contract_cites_the_definition_of_its_table() {
+    let tables = demands();
+    assert_eq!(tables.len(), 2);
+    for row in tables.iter().flatten() {
+        assert_eq!(fault(row, &source_of(row)), None);
+    }
+}
+
+/// Each row of the first table names demands there are, and every operation is in it.
+#[test]
+fn the_first_table_has_every_operation() {
+    let listed: Vec<String> = demands()[0]
+        .iter()
+        .map(|row| row.function.clone())
+        .collect();
+    let operations = [
+        "network::open",
+        "reach::reach",
+        "order::order",
+        "cost::cost",
+        "page::page",
+        "pick::pick",
+        "front::front",
+    ];
+    assert_eq!(listed, operations);
+    let said = text(&crates().join("demands/specs/Demands.antt"));
+    for row in &demands()[0] {
+        for demand in row.last.split(", ") {
+            let record = said
+                .split(&format!("-- Demand {demand}"))
+                .nth(1)
+                .unwrap_or_else(|| panic!("{}: there is no demand {demand}", row.function));
+            let record = record.split("\n-- Demand ").next().unwrap();
+            assert!(
+                names(record, &row.definition),
+                "demand {demand} does not speak of {}",
+                row.definition
+            );
+        }
+    }
+}
+
+/// The second table has every function that Rust and C can call, and each hands on the definition of an operation.
+#[test]
+fn the_second_table_hands_on_the_first() {
+    let tables = demands();
+    let exported: Vec<String> = functions(&text(&crates().join("planner_c/src/lib.rt")))
+        .into_iter()
+        .filter(|f| f.exported)
+        .map(|f| format!("planner_c::{}", f.name))
+        .collect();
+    let mut listed: Vec<String> = tables[1].iter().map(|row| row.function.clone()).collect();
+    let mut there = exported;
+    listed.sort();
+    there.sort();
+    assert_eq!(listed, there);
+
+    let calls = text(&crates().join("planner_c/specs/Calls.antt"));
+    for row in &tables[1] {
+        let operation = tables[0]
+            .iter()
+            .find(|operation| operation.definition == row.last)
+            .unwrap_or_else(|| panic!("{}: {} is of no operation", row.function, row.last));
+        let module = format!("Rattle.{}.specs.{}", operation.crate_name, operation.module);
+        assert!(
+            brings(&calls, "use", &module, &row.last),
+            "{}",
+            row.function
+        );
+        let clause = calls
+            .split(&format!("\n{} ", row.definition))
+            .nth(1)
+            .unwrap_or_else(|| panic!("{} is not defined", row.definition));
+        let clause = clause.split("\n\n").next().unwrap();
+        assert!(
+            names(clause, &row.last),
+            "{} does not hand on {}",
+            row.definition,
+            row.last
+        );
+    }
+}
+
+/// Every public function of every crate is for all inputs, and promises an equation.
+#[test]
+fn no_public_function_requires_anything() {
+    let mut seen = 0;
+    for (crate_name, source) in sources() {
+        for f in functions(&source) {
+            assert!(f.requires.is_empty(), "{crate_name}::{} requires", f.name);
+            assert!(
+                f.ensures.iter().any(|clause| clause.contains('≡')),
+                "{crate_name}::{} does not say its outcome by an equation",
+                f.name
+            );
+            seen += 1;
+        }
+    }
+    assert!(seen > 50, "{seen} public functions were read");
+}
+
+/// The test itself can fail: each of these changes of a contract is noticed.
+#[test]
+fn a_contract_that_says_something_else_is_noticed() {
+    let row = demands()[0]
+        .iter()
+        .find(|row| row.function == "page::page")
+        .unwrap()
+        .clone();
+    let source = source_of(&row);
+    let changes = [
+        ("≡ pageCall (now (file", "≡ pageOther (now (file"),
+        ("pageCall, startChecks}", "startChecks}"),
+        ("buffers = now (page .exit) } ≡ pageCall", "buffers = now (page .entry) } ≡ pageCall"),
+        ("≡ pageCall (now (file .entry)) (now (page .entry)) (now (start .entry))", "≡ pageCall (now (file .entry)) (now (page .entry)) []"),
+        ("pub fn page(file: &[u8], page: &mut [u16], start: &[u16]) -> PageAnswer\n", "pub fn page(file: &[u8], page: &mut [u16], start: &[u16]) -> PageAnswer\n    requires { ⌜ 0 < length (now file) ⌝ }\n"),
+    ];
+    for (old, new) in changes {
+        assert_eq!(source.matches(old).count(), 1, "{old}");
+        assert!(fault(&row, &source.replace(old, new)).is_some(), "{new}");
+    }
+}
