@@ -25,7 +25,6 @@ pub fn front(network: &Network) -> Vec<Entry> {
     table
 }
 
-/// Closing costs are sums too: the streets only say in which sequence they are added.
 fn vector(network: &Network, tree: &[u16]) -> [u32; 4] {
     let mut vector = [0; 4];
     for (criterion, &kind) in network.kinds.iter().enumerate() {
@@ -34,10 +33,34 @@ fn vector(network: &Network, tree: &[u16]) -> [u32; 4] {
             .map(|&row| network.rows[row as usize].costs[criterion]);
         vector[criterion] = match kind {
             1 => costs.fold(0, u32::max),
+            2 => closing(network, tree, criterion),
             _ => costs.sum(),
         };
     }
     vector
+}
+
+/// The largest days of each named street, added, and the days of the rows off the road.
+fn closing(network: &Network, tree: &[u16], criterion: usize) -> u32 {
+    let mut streets = [(0u16, 0u32); 31];
+    let mut named = 0;
+    let mut off_the_road = 0;
+    for &row in tree {
+        let row = &network.rows[row as usize];
+        let days = row.costs[criterion];
+        if row.street == 0 {
+            off_the_road += days;
+        } else if let Some((_, most)) = streets[..named]
+            .iter_mut()
+            .find(|(street, _)| *street == row.street)
+        {
+            *most = days.max(*most);
+        } else {
+            streets[named] = (row.street, days);
+            named += 1;
+        }
+    }
+    off_the_road + streets[..named].iter().map(|(_, days)| days).sum::<u32>()
 }
 
 fn no_larger(v: &[u32; 4], w: &[u32; 4]) -> bool {

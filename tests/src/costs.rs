@@ -18,14 +18,17 @@ pub fn vector(network: &Network, tree: &[u16]) -> Vector {
     network.kinds.iter().enumerate().map(cost).collect()
 }
 
-/// The days street by street, the streets added, and the days of the rows of street 0 with them.
+/// Each named street closed once, for the largest days of its rows; the streets added, and the days of the rows of street 0 with them.
 fn closing(rows: &[&Row], criterion: usize) -> u32 {
     let mut streets: BTreeMap<u16, u32> = BTreeMap::new();
     let mut off_the_road = 0;
     for row in rows {
         match row.street {
             0 => off_the_road += row.costs[criterion],
-            street => *streets.entry(street).or_default() += row.costs[criterion],
+            street => {
+                let days = streets.entry(street).or_default();
+                *days = row.costs[criterion].max(*days);
+            }
         }
     }
     streets.values().sum::<u32>() + off_the_road

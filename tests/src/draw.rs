@@ -1,5 +1,5 @@
 //! Networks and drawn rows made from seeds: rows beside each other, few costs and streets so that they tie, parts that
-//! nothing joins, nodes that no row touches, rows with states; rows drawn well, and with slips.
+//! nothing joins, nodes that no row touches, rows with states, streets of many rows; rows drawn well, and with slips.
 
 use crate::file::{Network, Row, BARRED, MOST, MUST, OPEN};
 use crate::rng::Rng;
@@ -30,6 +30,27 @@ pub fn network(rng: &mut Rng, most_nodes: usize, most_rows: usize) -> Network {
 pub fn network_with_states(rng: &mut Rng, most_nodes: usize, most_rows: usize) -> Network {
     let network = network(rng, most_nodes, most_rows);
     states(rng, network)
+}
+
+/// A network with closing criteria, mostly several, and with few streets, so that most have many rows; 65,535 is always one of
+/// them, and the bytes of each stand in another.
+pub fn network_with_streets(rng: &mut Rng, most_nodes: usize, most_rows: usize) -> Network {
+    let mut network = network(rng, most_nodes, most_rows);
+    let closing = rng.between(0, network.k() - 1);
+    for (criterion, kind) in network.kinds.iter_mut().enumerate() {
+        if criterion == closing || !rng.once_in(3) {
+            *kind = 2;
+        }
+    }
+    let named = &[u16::MAX, 0x00ff, 0xff00, 0x0007, 0x0700][..rng.between(1, 5)];
+    let off_the_road = rng.pick(&[2, 4, 20]);
+    for row in &mut network.rows {
+        row.street = match rng.once_in(off_the_road) {
+            true => 0,
+            false => rng.pick(named),
+        };
+    }
+    network
 }
 
 /// The network in version 2. Mostly must rows of one spanning tree and barred rows beside it, few or many, so that a tree is

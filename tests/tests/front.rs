@@ -360,6 +360,11 @@ fn seeded_networks_with_states() {
     seeded(|rng| draw::network_with_states(rng, 7, 12));
 }
 
+#[test]
+fn seeded_networks_with_streets() {
+    seeded(|rng| draw::network_with_streets(rng, 7, 12));
+}
+
 /// Many criteria and costs of any size: fronts of some hundred vectors, which grow and shrink on the way.
 #[test]
 fn seeded_networks_with_long_fronts() {

@@ -184,7 +184,8 @@ fn drawn_trees_that_break_a_state() {
 /// 32 nodes and 256 rows, the last of them at row number 255, and the greatest sum.
 #[test]
 fn the_largest_network() {
-    let row = |a: u8, b: u8| Row::new([a, b], a as u16 % 3, vec![MOST; 3]);
+    // each row of the line in a street of its own
+    let row = |a: u8, b: u8| Row::new([a, b], u16::MAX - a as u16, vec![MOST; 3]);
     let mut line: Vec<Row> = (1..32).map(|a| row(a, a + 1)).collect();
     let mut rows = vec![row(32, 31); 256 - line.len()];
     rows.append(&mut line);
@@ -358,6 +359,15 @@ fn seeded_networks_with_states() {
         draw::network_with_states(rng, nodes, rows)
     };
     seeded(make, &[1, 2, 3, 4, 5, 6, 7, 14], &[8, 9, 10, 11, 15]);
+}
+
+#[test]
+fn seeded_networks_with_streets() {
+    let make = |rng: &mut Rng| {
+        let (nodes, rows) = sizes(rng);
+        draw::network_with_streets(rng, nodes, rows)
+    };
+    seeded(make, &[1, 2, 3, 4, 5, 6, 7], &[8, 9, 10, 11]);
 }
 
 /// Every sequence of a tree's rows has the same path and the same vector.

@@ -8,17 +8,18 @@ use Prim.Native.Nat.{_≤_, min, suc, ℕ}
 use native.Mathlib.Decide.{decLe}
 use native.Mathlib.Omega.{arith}
 use lib.Dec.{T, eqb, le→leb}
-use Rattle.lists.specs.Lists.{both, filterB, largest, sum}
+use Rattle.lists.specs.Lists.{both, filterB}
 use Rattle.lists.proofs.Members.{_∈_, filter-in, filter-out}
+use Rattle.lists.proofs.Sums.{largest-larger, sum-larger}
 use Rattle.lists.proofs.Tests.{T-both, T-either}
 use Rattle.graph.specs.Graph.{Graph, firstEnd, rowNumbers, secondEnd}
 use Rattle.graph.specs.Paths.{Key, steps, trees}
 use Rattle.graph.proofs.Growth.{start}
 use Rattle.graph.proofs.Trees.{trees-mem}
 use Rattle.graph.proofs.Walk.{stateAfter}
-use Rattle.costs.specs.Costs.{costAt, costBy, costOf, costsFrom, noneLarger}
+use Rattle.costs.specs.Costs.{costBy, costOf, costsFrom, noneLarger}
 use Rattle.costs.specs.Network.{Kind, Network, added, closing, graphOf, worst}
-use Rattle.bounds.specs.Bounds.{allowed, begins, boundBy, boundWith, boundsFrom, enteredBy, keysOr, lastKey, leastAllowed, leastAt, leastOf, lowerBound, missing, noKey, opens, sharpBound, smallest, touches}
+use Rattle.bounds.specs.Bounds.{allowed, begins, boundBy, boundWith, boundsFrom, enteredBy, gainAt, keysOr, lastKey, leastAllowed, leastAt, leastOf, lowerBound, missing, noKey, opens, sharpBound, smallest, touches}
 use Rattle.bounds.proofs.Lower.{branch-later, branched, leastOf-below, tree-formed}
 use Rattle.bounds.proofs.Missing.{entered-is, missing-entered, step-legal}
 use Rattle.bounds.proofs.Sharp.{later-allowed}
@@ -31,27 +32,16 @@ cost-by w least vs rs c added = omega arith
 cost-by w least vs rs c worst = omega arith
 cost-by w least vs rs c closing = omega arith
 
-cost-from : (w : Network) (least : ℕ → ℕ → ℕ) (vs rs : List ℕ) (c : ℕ) (kinds : List Kind) → T (noneLarger (costsFrom w c kinds rs) (boundsFrom w least vs rs c kinds))
+cost-from : (w : Network) (least : Kind → ℕ → ℕ → ℕ) (vs rs : List ℕ) (c : ℕ) (kinds : List Kind) → T (noneLarger (costsFrom w c kinds rs) (boundsFrom w least vs rs c kinds))
 unfolding costsFrom boundsFrom noneLarger
 cost-from w least vs rs c [] = tt
-cost-from w least vs rs c (kind ∷ kinds) = simp T-both (le→leb _ _ (cost-by w least vs rs c kind), cost-from w least vs rs (suc c) kinds)
+cost-from w least vs rs c (kind ∷ kinds) = simp T-both (le→leb _ _ (cost-by w (least kind) vs rs c kind), cost-from w least vs rs (suc c) kinds)
 
-pub cost-bound : (w : Network) (least : ℕ → ℕ → ℕ) (prefix : List ℕ) → T (noneLarger (costOf w prefix) (boundWith w least prefix))
+pub cost-bound : (w : Network) (least : Kind → ℕ → ℕ → ℕ) (prefix : List ℕ) → T (noneLarger (costOf w prefix) (boundWith w least prefix))
 unfolding costOf
 cost-bound w least prefix = cost-from w least _ prefix 0 (w .kinds)
 
 -- A larger measure of the missing nodes makes a larger bound.
-
-module _ (b d : ℕ → ℕ) where
-  sum-larger : (vs : List ℕ) → ((v : ℕ) → v ∈ vs → b v ≤ d v) → sum (map b vs) ≤ sum (map d vs)
-  unfolding sum
-  sum-larger [] h = omega arith
-  sum-larger (v ∷ vs) h = omega (arith, h v (here refl), sum-larger vs (λ u m. h u (there m)))
-
-  largest-larger : (vs : List ℕ) → ((v : ℕ) → v ∈ vs → b v ≤ d v) → largest (map b vs) ≤ largest (map d vs)
-  unfolding largest
-  largest-larger [] h = omega arith
-  largest-larger (v ∷ vs) h = omega (arith, h v (here refl), largest-larger vs (λ u m. h u (there m)))
 
 -- by each kind
 larger-by : (w : Network) (least more : ℕ → ℕ → ℕ) (vs rs : List ℕ) (c : ℕ) → ((v : ℕ) → v ∈ vs → least c v ≤ more c v) → (kind : Kind)
@@ -60,12 +50,12 @@ larger-by w least more vs rs c h added = omega (arith, sum-larger (least c) (mor
 larger-by w least more vs rs c h worst = omega (arith, largest-larger (least c) (more c) vs h)
 larger-by w least more vs rs c h closing = omega (arith, sum-larger (least c) (more c) vs h)
 
-pub larger-from : (w : Network) (least more : ℕ → ℕ → ℕ) (vs rs : List ℕ) → ((c v : ℕ) → v ∈ vs → least c v ≤ more c v) → (c : ℕ) (kinds : List Kind)
+pub larger-from : (w : Network) (least more : Kind → ℕ → ℕ → ℕ) (vs rs : List ℕ) → ((kind : Kind) (c v : ℕ) → v ∈ vs → least kind c v ≤ more kind c v) → (c : ℕ) (kinds : List Kind)
     → T (noneLarger (boundsFrom w least vs rs c kinds) (boundsFrom w more vs rs c kinds))
 unfolding boundsFrom noneLarger
 larger-from w least more vs rs h c [] = tt
 larger-from w least more vs rs h c (kind ∷ kinds) =
-    simp T-both (le→leb _ _ (larger-by w least more vs rs c (h c) kind), larger-from w least more vs rs h (suc c) kinds)
+    simp T-both (le→leb _ _ (larger-by w (least kind) (more kind) vs rs c (h kind c) kind), larger-from w least more vs rs h (suc c) kinds)
 
 -- Fewer rows, of which there is one, have a larger least cost.
 
@@ -87,13 +77,13 @@ smallest-in : {x : ℕ} (l : List ℕ) → x ∈ l → smallest l ∈ l
 smallest-in [] m = absurd (mem-nil m)
 smallest-in (y ∷ l) m = smallest-mem y l
 
-leastOf-larger : (w : Network) (c : ℕ) (test fewer : ℕ → Bool) → ((r : ℕ) → T (fewer r) → T (test r)) → (r : ℕ) → r ∈ rowNumbers (graphOf w) → T (fewer r)
-    → leastOf w c test ≤ leastOf w c fewer
-leastOf-larger w c test fewer h r m t =
+leastOf-larger : (w : Network) (kind : Kind) (c : ℕ) (test fewer : ℕ → Bool) → ((r : ℕ) → T (fewer r) → T (test r)) → (r : ℕ) → r ∈ rowNumbers (graphOf w) → T (fewer r)
+    → leastOf w kind c test ≤ leastOf w kind c fewer
+leastOf-larger w kind c test fewer h r m t =
     let rows = filterB fewer (rowNumbers (graphOf w)) in
-    let (q, i, e) = map-out (costAt w c) rows (smallest-in (map (costAt w c) rows) (map-in (costAt w c) (filter-in fewer m t))) in
+    let (q, i, e) = map-out (gainAt kind w c) rows (smallest-in (map (gainAt kind w c) rows) (map-in (gainAt kind w c) (filter-in fewer m t))) in
     let (j, u) = filter-out fewer (rowNumbers (graphOf w)) i in
-    omega (arith, e, leastOf-below w c test j (h q u))
+    omega (arith, e, leastOf-below w kind c test j (h q u))
 
 allowed-touches : (g : Graph) (entered : List ℕ) (k : Key) (v r : ℕ) → T (allowed g entered k v r) → T (touches g v r)
 allowed-touches g entered k v r t = ⊎-elim
@@ -110,15 +100,15 @@ lower-sharp w prefix p m t = larger-from w (leastAt w) (leastAllowed w (enteredB
     last : Key
     last = lastKey noKey (keysOr (steps g prefix))
 
-    larger : (c v : ℕ) → v ∈ missing g (enteredBy g prefix) → leastAt w c v ≤ leastAllowed w (enteredBy g prefix) last c v
-    larger c v i =
+    larger : (kind : Kind) (c v : ℕ) → v ∈ missing g (enteredBy g prefix) → leastAt w kind c v ≤ leastAllowed w (enteredBy g prefix) last kind c v
+    larger kind c v i =
         let minimal = trees-mem g p .0 m .0 in
         let b = branched g (tree-formed w p minimal) prefix p minimal t in
         let s = stateAfter (start g) (b .done) in
         let same = entered-is g prefix (b .done) (b .made) in
         let (k, j, e) = map-out (λ k. k .node) (b .later)
         (missing-entered g (rowNumbers g) s (b .later) (branch-later b) v (subst (λ (l : List ℕ). v ∈ missing g l) same i)) in
-        leastOf-larger w c (touches g v) (allowed g (enteredBy g prefix) last v) (allowed-touches g (enteredBy g prefix) last v) (k .row)
+        leastOf-larger w kind c (touches g v) (allowed g (enteredBy g prefix) last v) (allowed-touches g (enteredBy g prefix) last v) (k .row)
         (step-legal g (rowNumbers g) s (b .later) (branch-later b) j .1 .usable)
         (subst (λ (x : ℕ). T (allowed g (enteredBy g prefix) last x (k .row))) e
         (rw (same, b .made) (later-allowed g (b .done) (b .later) k (branch-later b) j)))

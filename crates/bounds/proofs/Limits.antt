@@ -9,7 +9,7 @@ use Rattle.lists.specs.Lists.{largest, sum}
 use Rattle.lists.proofs.Members.{_∈_}
 use Rattle.costs.specs.Costs.{addedCost, costAt, costBy, costsFrom, worstCost}
 use Rattle.costs.specs.Network.{Kind, Network, added, closing, worst}
-use Rattle.bounds.proofs.Closing.{closing-added}
+use Rattle.bounds.proofs.Closing.{closing-most}
 
 module _ (w : Network) (b : ℕ) (most : (c r : ℕ) → costAt w c r ≤ b) where
   pub added-most : (c : ℕ) (rows : List ℕ) → addedCost w c rows ≤ length rows * b
@@ -25,7 +25,7 @@ module _ (w : Network) (b : ℕ) (most : (c r : ℕ) → costAt w c r ≤ b) whe
   pub by-kind : (kind : Kind) (c : ℕ) (rows : List ℕ) → costBy kind w c rows ≤ length rows * b
   by-kind added c rows = added-most c rows
   by-kind worst c rows = worst-most c rows
-  by-kind closing c rows = rw (closing-added w c rows) (added-most c rows)
+  by-kind closing c rows = omega (arith, closing-most w c rows, added-most c rows)
 
   pub costs-most : (c : ℕ) (kinds : List Kind) (rows : List ℕ) (x : ℕ) → x ∈ costsFrom w c kinds rows → x ≤ length rows * b
   unfolding costsFrom

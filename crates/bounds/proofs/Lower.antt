@@ -1,5 +1,5 @@
 -- The lower bound of a branch: a tree that begins with the prefix costs at least what the prefix costs, and for each node that the prefix has not
--- entered the cheapest row that has it as an end (`lower-bound`). Any other measure of the missing nodes that no later step is below does as well (`bound-with`).
+-- entered the least that a row with that end adds (`lower-bound`). Any other measure of the missing nodes that no later step is below does as well (`bound-with`).
 use mathlib.Core.Path.{_∙_, _≡_, ap, refl, subst, sym}
 use mathlib.Core.Logic.{inl, inr}
 use mathlib.Core.Bool.{Bool, not}
@@ -20,13 +20,13 @@ use Rattle.graph.proofs.Minimal.{WellFormed, Whole, minimal-parts, whole-of}
 use Rattle.graph.proofs.Steps.{completion-steps, steps-rows}
 use Rattle.graph.proofs.Trees.{trees-mem}
 use Rattle.graph.proofs.Walk.{completion-part, stateAfter}
-use Rattle.costs.specs.Costs.{costAt, costBy, costOf, costsFrom, noneLarger}
+use Rattle.costs.specs.Costs.{costBy, costOf, costsFrom, noneLarger}
 use Rattle.costs.specs.Network.{Kind, Network, added, closing, graphOf, worst}
 use Rattle.costs.proofs.Networks.{network-formed}
-use Rattle.bounds.specs.Bounds.{begins, boundBy, boundWith, boundsFrom, enteredBy, leastAt, leastOf, lowerBound, missing, nodesOf, smallest, touches}
-use Rattle.bounds.proofs.Closing.{closing-added}
+use Rattle.bounds.specs.Bounds.{begins, boundBy, boundWith, boundsFrom, enteredBy, gainAt, leastAt, leastOf, lowerBound, missing, nodesOf, smallest, touches}
+use Rattle.bounds.proofs.Closing.{closing-gains}
 use Rattle.bounds.proofs.Growing.{added-append, worst-append}
-use Rattle.bounds.proofs.Missing.{Pays, entered-is, missing-added, missing-entered, missing-worst, step-legal}
+use Rattle.bounds.proofs.Missing.{Pays, entered-is, missing-entered, missing-largest, missing-sum, step-legal}
 use Rattle.bounds.proofs.Prefix.{rowsOf-append, steps-begin}
 
 -- The keys of a tree of the branch
@@ -58,22 +58,22 @@ branch-later {g} b = completion-part g (rowNumbers g) (start g) (b .done) (b .la
 
 -- The bound, criterion by criterion
 
-module _ (w : Network) (least : ℕ → ℕ → ℕ) (vs rs : List ℕ) (ks : List Key) (d : Distinct vs) (s : vs ⊆ nodesOf ks) where
+module _ (w : Network) (least : Kind → ℕ → ℕ → ℕ) (vs rs : List ℕ) (ks : List Key) (d : Distinct vs) (s : vs ⊆ nodesOf ks) where
   -- by each kind
-  below-by : (c : ℕ) → Pays w c (least c) ks → (kind : Kind) → boundBy kind w least vs rs c ≤ costBy kind w c (rs ++ rowsOf ks)
-  below-by c h added = omega (arith, missing-added w c (least c) vs ks d s h, added-append w c rs (rowsOf ks))
-  below-by c h worst = omega (arith, missing-worst w c (least c) vs ks s h, worst-append w c rs (rowsOf ks))
-  below-by c h closing = omega (arith, missing-added w c (least c) vs ks d s h, added-append w c rs (rowsOf ks), closing-added w c rs, closing-added w c (rs ++ rowsOf ks))
+  below-by : (c : ℕ) (kind : Kind) → Pays w kind c (least kind c) ks → boundBy kind w (least kind) vs rs c ≤ costBy kind w c (rs ++ rowsOf ks)
+  below-by c added h = omega (arith, missing-sum w added c (least added c) vs ks d s h, added-append w c rs (rowsOf ks))
+  below-by c worst h = omega (arith, missing-largest w worst c (least worst c) vs ks s h, worst-append w c rs (rowsOf ks))
+  below-by c closing h = omega (arith, missing-sum w closing c (least closing c) vs ks d s h, closing-gains w c rs (rowsOf ks))
 
-  bounds-below : (h : (c : ℕ) → Pays w c (least c) ks) (c : ℕ) (kinds : List Kind)
+  bounds-below : (h : (kind : Kind) (c : ℕ) → Pays w kind c (least kind c) ks) (c : ℕ) (kinds : List Kind)
       → T (noneLarger (boundsFrom w least vs rs c kinds) (costsFrom w c kinds (rs ++ rowsOf ks)))
   unfolding boundsFrom costsFrom noneLarger
   bounds-below h c [] = tt
-  bounds-below h c (kind ∷ kinds) = simp T-both (le→leb _ _ (below-by c (h c) kind), bounds-below h (suc c) kinds)
+  bounds-below h c (kind ∷ kinds) = simp T-both (le→leb _ _ (below-by c kind (h kind c)), bounds-below h (suc c) kinds)
 
 -- BOUND: by any measure that no later step is below
-pub bound-with : (w : Network) (least : ℕ → ℕ → ℕ) (prefix p : List ℕ) → WellFormed (graphOf w) → (b : Branched (graphOf w) prefix p)
-    → ((c : ℕ) → Pays w c (least c) (b .later)) → T (noneLarger (boundWith w least prefix) (costOf w p))
+pub bound-with : (w : Network) (least : Kind → ℕ → ℕ → ℕ) (prefix p : List ℕ) → WellFormed (graphOf w) → (b : Branched (graphOf w) prefix p)
+    → ((kind : Kind) (c : ℕ) → Pays w kind c (least kind c) (b .later)) → T (noneLarger (boundWith w least prefix) (costOf w p))
 unfolding costOf
 bound-with w least prefix p wf b h =
     subst (λ (q : List ℕ). T (noneLarger (boundWith w least prefix) (costOf w q))) (sym (b .rows))
@@ -86,7 +86,7 @@ bound-with w least prefix p wf b h =
     g : Graph
     g = graphOf w
 
--- The cheapest row
+-- The least that a row adds
 
 pub smallest-below : {x : ℕ} {l : List ℕ} → x ∈ l → smallest l ≤ x
 unfolding smallest
@@ -95,8 +95,9 @@ smallest-below (here {xs = y ∷ l} e) = omega arith
 smallest-below (there {xs = []} m) = absurd (mem-nil m)
 smallest-below (there {xs = y ∷ l} m) = omega (arith, smallest-below m)
 
-pub leastOf-below : (w : Network) (c : ℕ) (test : ℕ → Bool) {r : ℕ} → r ∈ rowNumbers (graphOf w) → T (test r) → leastOf w c test ≤ costAt w c r
-leastOf-below w c test m t = smallest-below (map-in (costAt w c) (filter-in test m t))
+pub leastOf-below : (w : Network) (kind : Kind) (c : ℕ) (test : ℕ → Bool) {r : ℕ} → r ∈ rowNumbers (graphOf w) → T (test r)
+    → leastOf w kind c test ≤ gainAt kind w c r
+leastOf-below w kind c test m t = smallest-below (map-in (gainAt kind w c) (filter-in test m t))
 
 pub touches-in : (g : Graph) {r u v : ℕ} → Joins g r u v → T (touches g v r)
 touches-in g {r} {u} {v} (forth a b) = simp T-either (inr (eq→eqb (secondEnd g r) v b))
@@ -117,6 +118,6 @@ lower-bound w prefix p m t =
     let minimal = trees-mem (graphOf w) p .0 m .0 in
     let wf = tree-formed w p minimal in
     let b = branched (graphOf w) wf prefix p minimal t in
-    bound-with w (leastAt w) prefix p wf b (λ c k i.
+    bound-with w (leastAt w) prefix p wf b (λ kind c k i.
     let (s, h, old) = step-legal (graphOf w) (rowNumbers (graphOf w)) (stateAfter (start (graphOf w)) (b .done)) (b .later) (branch-later b) i in
-    leastOf-below w c (touches (graphOf w) (k .node)) (h .usable) (touches-in (graphOf w) (h .step .joined)))
+    leastOf-below w kind c (touches (graphOf w) (k .node)) (h .usable) (touches-in (graphOf w) (h .step .joined)))

@@ -1,5 +1,5 @@
 -- What is left to enter: a completion enters each missing node by exactly one step (`entered-once`), and different nodes by different rows
--- (`rows-apart`). So what the missing nodes cost at least, by any measure that no step is below (`Pays`), its rows cost at least: `missing-added`, `missing-worst`.
+-- (`rows-apart`). So what the missing nodes cost at least, by any measure that no step is below (`Pays`), its rows add at least: `missing-sum`, `missing-largest`.
 use mathlib.Core.Path.{_∙_, _≡_, ap, refl, subst, sym}
 use mathlib.Core.Logic.{_⊎_, inl, inr, ⊎-elim}
 use mathlib.Core.Bool.{not}
@@ -13,15 +13,14 @@ use lib.Seq.{append-snoc}
 use Rattle.lists.specs.Lists.{largest, member, sum}
 use Rattle.lists.proofs.Distinct.{Distinct}
 use Rattle.lists.proofs.Members.{_∈_, _⊆_, filter-out, member-in, not-snoc, snoc-new, snoc-old}
+use Rattle.lists.proofs.Sums.{largest-within, sum-within}
 use Rattle.graph.specs.Graph.{Graph}
 use Rattle.graph.specs.Paths.{Key, steps}
 use Rattle.graph.proofs.Growth.{Completion, Legal, State, after, rowsOf, start}
 use Rattle.graph.proofs.Unique.{rows-distinct}
 use Rattle.graph.proofs.Walk.{stateAfter}
-use Rattle.costs.specs.Costs.{addedCost, costAt, worstCost}
-use Rattle.costs.specs.Network.{Network}
-use Rattle.bounds.specs.Bounds.{enteredBy, keysOr, missing, nodesOf}
-use Rattle.bounds.proofs.Growing.{largest-within, sum-within}
+use Rattle.costs.specs.Network.{Kind, Network}
+use Rattle.bounds.specs.Bounds.{enteredBy, gainAt, keysOr, missing, nodesOf}
 
 -- The state after a prefix
 
@@ -94,23 +93,23 @@ module _ (g : Graph) (rs : List ℕ) (s : State) (ks : List Key) (c : Completion
 
 -- What they cost
 
--- b is at most the cost of the row that enters the node
-abbrev pub Pays : Network → ℕ → (ℕ → ℕ) → List Key → Type 0
-Pays w c b ks = (k : Key) → k ∈ ks → b (k .node) ≤ costAt w c (k .row)
+-- b is at most what the row that enters the node adds
+abbrev pub Pays : Network → Kind → ℕ → (ℕ → ℕ) → List Key → Type 0
+Pays w kind c b ks = (k : Key) → k ∈ ks → b (k .node) ≤ gainAt kind w c (k .row)
 
-module _ (w : Network) (c : ℕ) (b : ℕ → ℕ) where
-  pays-added : (ks : List Key) → Pays w c b ks → sum (map b (nodesOf ks)) ≤ addedCost w c (rowsOf ks)
+module _ (w : Network) (kind : Kind) (c : ℕ) (b : ℕ → ℕ) where
+  pays-sum : (ks : List Key) → Pays w kind c b ks → sum (map b (nodesOf ks)) ≤ sum (map (gainAt kind w c) (rowsOf ks))
   unfolding sum
-  pays-added [] h = omega arith
-  pays-added (k ∷ ks) h = omega (arith, h k (here refl), pays-added ks (λ l m. h l (there m)))
+  pays-sum [] h = omega arith
+  pays-sum (k ∷ ks) h = omega (arith, h k (here refl), pays-sum ks (λ l m. h l (there m)))
 
-  pays-worst : (ks : List Key) → Pays w c b ks → largest (map b (nodesOf ks)) ≤ worstCost w c (rowsOf ks)
+  pays-largest : (ks : List Key) → Pays w kind c b ks → largest (map b (nodesOf ks)) ≤ largest (map (gainAt kind w c) (rowsOf ks))
   unfolding largest
-  pays-worst [] h = omega arith
-  pays-worst (k ∷ ks) h = omega (arith, h k (here refl), pays-worst ks (λ l m. h l (there m)))
+  pays-largest [] h = omega arith
+  pays-largest (k ∷ ks) h = omega (arith, h k (here refl), pays-largest ks (λ l m. h l (there m)))
 
-  pub missing-added : (vs : List ℕ) (ks : List Key) → Distinct vs → vs ⊆ nodesOf ks → Pays w c b ks → sum (map b vs) ≤ addedCost w c (rowsOf ks)
-  missing-added vs ks d s h = omega (arith, sum-within b vs d s, pays-added ks h)
+  pub missing-sum : (vs : List ℕ) (ks : List Key) → Distinct vs → vs ⊆ nodesOf ks → Pays w kind c b ks → sum (map b vs) ≤ sum (map (gainAt kind w c) (rowsOf ks))
+  missing-sum vs ks d s h = omega (arith, sum-within b vs d s, pays-sum ks h)
 
-  pub missing-worst : (vs : List ℕ) (ks : List Key) → vs ⊆ nodesOf ks → Pays w c b ks → largest (map b vs) ≤ worstCost w c (rowsOf ks)
-  missing-worst vs ks s h = omega (arith, largest-within b vs s, pays-worst ks h)
+  pub missing-largest : (vs : List ℕ) (ks : List Key) → vs ⊆ nodesOf ks → Pays w kind c b ks → largest (map b vs) ≤ largest (map (gainAt kind w c) (rowsOf ks))
+  missing-largest vs ks s h = omega (arith, largest-within b vs s, pays-largest ks h)

@@ -1,4 +1,4 @@
--- The sharper bound (`sharp-bound`): a missing node counts at least the cheapest row that may still enter it, from a node that is not entered
+-- The sharper bound (`sharp-bound`): a missing node counts the least that a row that may still enter it adds, from a node that is not entered
 -- yet, or by a step that comes after the last step of the prefix.
 use mathlib.Core.Path.{_≡_, refl, subst, sym}
 use mathlib.Core.Logic.{inl, inr}
@@ -68,6 +68,6 @@ sharp-bound w prefix p m t =
     let wf = tree-formed w p minimal in
     let b = branched (graphOf w) wf prefix p minimal t in
     bound-with w (leastAllowed w (enteredBy (graphOf w) prefix) (lastKey noKey (keysOr (steps (graphOf w) prefix)))) prefix p wf b
-    (λ c k i. leastOf-below w c (allowed (graphOf w) (enteredBy (graphOf w) prefix) (lastKey noKey (keysOr (steps (graphOf w) prefix))) (k .node))
+    (λ kind c k i. leastOf-below w kind c (allowed (graphOf w) (enteredBy (graphOf w) prefix) (lastKey noKey (keysOr (steps (graphOf w) prefix))) (k .node))
     (step-legal (graphOf w) (rowNumbers (graphOf w)) (stateAfter (start (graphOf w)) (b .done)) (b .later) (branch-later b) i .1 .usable)
     (rw (entered-is (graphOf w) prefix (b .done) (b .made), b .made) (later-allowed (graphOf w) (b .done) (b .later) k (branch-later b) i)))

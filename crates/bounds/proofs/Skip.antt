@@ -38,12 +38,12 @@ pub through-behind : {g : Graph} {L : List (List ℕ)} → Part g L → (prefix 
 through-behind {g} {L} part prefix = append-assoc (beforePrefix L prefix) (branch L prefix) (behindPrefix L prefix) ∙ prefix-parts part prefix
 
 -- bounds have a part for each criterion
-bounds-length : (w : Network) (least : ℕ → ℕ → ℕ) (vs rs : List ℕ) (c : ℕ) (kinds : List Kind) → length (boundsFrom w least vs rs c kinds) ≡ length kinds
+bounds-length : (w : Network) (least : Kind → ℕ → ℕ → ℕ) (vs rs : List ℕ) (c : ℕ) (kinds : List Kind) → length (boundsFrom w least vs rs c kinds) ≡ length kinds
 unfolding boundsFrom
 bounds-length w least vs rs c [] = refl
 bounds-length w least vs rs c (kind ∷ kinds) = ap suc (bounds-length w least vs rs (suc c) kinds)
 
-pub bound-length : (w : Network) (least : ℕ → ℕ → ℕ) (prefix : List ℕ) → length (boundWith w least prefix) ≡ length (w .kinds)
+pub bound-length : (w : Network) (least : Kind → ℕ → ℕ → ℕ) (prefix : List ℕ) → length (boundWith w least prefix) ≡ length (w .kinds)
 bound-length w least prefix = bounds-length w least _ prefix 0 (w .kinds)
 
 pub cost-length : (w : Network) (p : List ℕ) → length (costOf w p) ≡ length (w .kinds)

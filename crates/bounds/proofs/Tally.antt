@@ -13,20 +13,20 @@ use lib.Dec.{T, T-not, le→leb, not-T}
 use lib.Seq.{append-snoc}
 use Rattle.lists.specs.Lists.{filterB, largest, member, sum}
 use Rattle.lists.proofs.Distinct.{Distinct, mem?, range-distinct}
-use Rattle.lists.proofs.Members.{_∈_, filter-skip, member-in, member-out, not-snoc, snoc-new, snoc-old}
+use Rattle.lists.proofs.Members.{_∈_, filter-keep, filter-skip, member-in, member-out, not-snoc, snoc-new, snoc-old}
+use Rattle.lists.proofs.Sums.{largest-append, sum-append}
 use Rattle.lists.proofs.Tests.{T-both}
 use Rattle.graph.specs.Graph.{Graph, rowNumbers}
 use Rattle.graph.specs.Paths.{Key, stepOf, steps, stepsFrom}
 use Rattle.graph.proofs.Growth.{Joins, Step}
 use Rattle.graph.proofs.Steps.{stepOf-out, stepsFrom-cons, stepsFrom-nil}
-use Rattle.costs.specs.Costs.{costAt, noneLarger}
+use Rattle.costs.specs.Costs.{noneLarger}
 use Rattle.costs.specs.Network.{Kind, Network, added, closing, graphOf, worst}
-use Rattle.bounds.specs.Bounds.{boundBy, boundsFrom, enteredBy, leastAt, lowerBound, missing, nodesOf, touches}
-use Rattle.bounds.proofs.Closing.{closing-added}
-use Rattle.bounds.proofs.Growing.{added-append, largest-append, sum-append, worst-append}
+use Rattle.bounds.specs.Bounds.{boundBy, boundsFrom, enteredBy, gainAt, leastAt, lowerBound, missing, nodesOf, touches}
+use Rattle.bounds.proofs.Closing.{closing-gains}
+use Rattle.bounds.proofs.Growing.{added-append, worst-append}
 use Rattle.bounds.proofs.Lower.{leastOf-below, touches-in}
 use Rattle.bounds.proofs.Prefix.{steps-cons}
-use Rattle.bounds.proofs.Segments.{filter-keep}
 
 -- The steps of a longer prefix
 
@@ -156,20 +156,23 @@ lower-longer w prefix js r k e f known =
     once : Distinct (g .nodes)
     once = range-distinct 1 (w .nodeCount)
 
-    paid : (c : ℕ) → leastAt w c (k .node) ≤ costAt w c r
-    paid c = leastOf-below w c (touches g (k .node)) known (touches-in g (subst (λ (q : ℕ). Joins g q (made .0 .pivot) (k .node)) (made .1) (made .0 .joined)))
+    paid : (kind : Kind) (c : ℕ) → leastAt w kind c (k .node) ≤ gainAt kind w c r
+    paid kind c =
+        leastOf-below w kind c (touches g (k .node)) known (touches-in g (subst (λ (q : ℕ). Joins g q (made .0 .pivot) (k .node)) (made .1) (made .0 .joined)))
 
-    all : (c : ℕ) → sum (map (leastAt w c) (missing g X)) ≡ leastAt w c (k .node) + sum (map (leastAt w c) (missing g (X ++ (k .node ∷ []))))
-    all c = sum-step g X (k .node) once (made .0 .enters) (made .0 .fresh) (leastAt w c)
+    all : (kind : Kind) (c : ℕ)
+        → sum (map (leastAt w kind c) (missing g X)) ≡ leastAt w kind c (k .node) + sum (map (leastAt w kind c) (missing g (X ++ (k .node ∷ []))))
+    all kind c = sum-step g X (k .node) once (made .0 .enters) (made .0 .fresh) (leastAt w kind c)
 
-    top : (c : ℕ) → largest (map (leastAt w c) (missing g X)) ≡ max (leastAt w c (k .node)) (largest (map (leastAt w c) (missing g (X ++ (k .node ∷ [])))))
-    top c = largest-step g X (k .node) once (made .0 .enters) (made .0 .fresh) (leastAt w c)
+    top : (c : ℕ) → largest (map (leastAt w worst c) (missing g X))
+        ≡ max (leastAt w worst c (k .node)) (largest (map (leastAt w worst c) (missing g (X ++ (k .node ∷ [])))))
+    top c = largest-step g X (k .node) once (made .0 .enters) (made .0 .fresh) (leastAt w worst c)
 
     from-by : (c : ℕ) (kind : Kind)
-        → boundBy kind w (leastAt w) (missing g X) prefix c ≤ boundBy kind w (leastAt w) (missing g (X ++ (k .node ∷ []))) (prefix ++ (r ∷ [])) c
-    from-by c added = omega (arith, paid c, all c, added-append w c prefix (r ∷ []))
-    from-by c worst = omega (arith, paid c, top c, worst-append w c prefix (r ∷ []))
-    from-by c closing = omega (arith, paid c, all c, added-append w c prefix (r ∷ []), closing-added w c prefix, closing-added w c (prefix ++ (r ∷ [])))
+        → boundBy kind w (leastAt w kind) (missing g X) prefix c ≤ boundBy kind w (leastAt w kind) (missing g (X ++ (k .node ∷ []))) (prefix ++ (r ∷ [])) c
+    from-by c added = omega (arith, paid added c, all added c, added-append w c prefix (r ∷ []))
+    from-by c worst = omega (arith, paid worst c, top c, worst-append w c prefix (r ∷ []))
+    from-by c closing = omega (arith, paid closing c, all closing c, closing-gains w c prefix (r ∷ []))
 
     from : (c : ℕ) (kinds : List Kind)
         → T (noneLarger (boundsFrom w (leastAt w) (missing g X) prefix c kinds) (boundsFrom w (leastAt w) (missing g (X ++ (k .node ∷ []))) (prefix ++ (r ∷ [])) c kinds))

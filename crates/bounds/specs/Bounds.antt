@@ -1,15 +1,16 @@
 -- Branches of the list of trees: the trees that begin with given rows stand together, and what stands behind them.
--- Lower bounds on the costs of all trees of a branch: the rows so far, and for each missing node the cheapest row that can enter it.
+-- Lower bounds on the costs of all trees of a branch: the rows so far, and for each missing node the least that a row that can enter it adds.
 use mathlib.Core.Bool.{Bool, false, not, true}
 use mathlib.Core.Option.{Option, none, some}
 use mathlib.Core.List.{List, [], _∷_, map}
-use Prim.Native.Nat.{_+_, max, min, suc, ℕ}
+use Prim.Native.Nat.{_+_, _-_, _/_, max, min, suc, ℕ}
 use lib.Dec.{eqb}
-use Rattle.lists.specs.Lists.{both, either, filterB, largest, member, pick, sum}
+use lib.ListN.{length}
+use Rattle.lists.specs.Lists.{any, both, either, filterB, largest, member, pick, sum}
 use Rattle.graph.specs.Graph.{Graph, firstEnd, rowNumbers, secondEnd}
 use Rattle.graph.specs.Paths.{Key, follows, placeOf, steps}
-use Rattle.costs.specs.Costs.{addedCost, closingCost, costAt, worstCost}
-use Rattle.costs.specs.Network.{Kind, Network, added, closing, graphOf, worst}
+use Rattle.costs.specs.Costs.{addedCost, closingCost, costAt, inStreet, streetCost, worstCost}
+use Rattle.costs.specs.Network.{Kind, Network, added, closing, graphOf, rowAt, worst}
 
 -- Branches
 
@@ -68,17 +69,23 @@ smallest [] = 0
 smallest (x ∷ []) = x
 smallest (x ∷ y ∷ l) = min x (smallest (y ∷ l))
 
--- least cost in criterion c of the network's rows that pass a test
-abbrev pub leastOf : Network → ℕ → (ℕ → Bool) → ℕ
-leastOf w c test = smallest (map (costAt w c) (filterB test (rowNumbers (graphOf w))))
+-- what row r adds at least, whatever the rows beside it: its cost, but in a named street, which is closed once for all its rows, nothing
+abbrev pub gainAt : Kind → Network → ℕ → ℕ → ℕ
+gainAt added w c r = costAt w c r
+gainAt worst w c r = costAt w c r
+gainAt closing w c r = pick (eqb (rowAt w r .street) 0) (costAt w c r) 0
+
+-- the least that one of the network's rows that pass a test adds in criterion c
+abbrev pub leastOf : Network → Kind → ℕ → (ℕ → Bool) → ℕ
+leastOf w kind c test = smallest (map (gainAt kind w c) (filterB test (rowNumbers (graphOf w))))
 
 -- row r has v as an end
 abbrev pub touches : Graph → ℕ → ℕ → Bool
 touches g v r = either (eqb (firstEnd g r) v) (eqb (secondEnd g r) v)
 
--- least cost in criterion c of a row with end v; 0 if there is none
-abbrev pub leastAt : Network → ℕ → ℕ → ℕ
-leastAt w c v = leastOf w c (touches (graphOf w) v)
+-- the least that a row with end v adds in criterion c; 0 if there is none
+abbrev pub leastAt : Network → Kind → ℕ → ℕ → ℕ
+leastAt w kind c v = leastOf w kind c (touches (graphOf w) v)
 
 -- the costs of the rows rs, and for each node v of vs `least c v` more; by the worst, the largest of all these
 abbrev pub boundBy : Kind → Network → (ℕ → ℕ → ℕ) → List ℕ → List ℕ → ℕ → ℕ
@@ -86,11 +93,11 @@ boundBy added w least vs rs c = addedCost w c rs + sum (map (least c) vs)
 boundBy worst w least vs rs c = max (worstCost w c rs) (largest (map (least c) vs))
 boundBy closing w least vs rs c = closingCost w c rs + sum (map (least c) vs)
 
-unfoldable pub boundsFrom : Network → (ℕ → ℕ → ℕ) → List ℕ → List ℕ → ℕ → List Kind → List ℕ
+unfoldable pub boundsFrom : Network → (Kind → ℕ → ℕ → ℕ) → List ℕ → List ℕ → ℕ → List Kind → List ℕ
 boundsFrom w least vs rs c [] = []
-boundsFrom w least vs rs c (kind ∷ kinds) = boundBy kind w least vs rs c ∷ boundsFrom w least vs rs (suc c) kinds
+boundsFrom w least vs rs c (kind ∷ kinds) = boundBy kind w (least kind) vs rs c ∷ boundsFrom w least vs rs (suc c) kinds
 
-abbrev pub boundWith : Network → (ℕ → ℕ → ℕ) → List ℕ → List ℕ
+abbrev pub boundWith : Network → (Kind → ℕ → ℕ → ℕ) → List ℕ → List ℕ
 boundWith w least prefix = boundsFrom w least (missing (graphOf w) (enteredBy (graphOf w) prefix)) prefix 0 (w .kinds)
 
 -- No tree that begins with the prefix costs less, in any criterion.
@@ -116,8 +123,48 @@ abbrev pub allowed : Graph → List ℕ → Key → ℕ → ℕ → Bool
 allowed g entered k v r =
     either (both (eqb (secondEnd g r) v) (opens entered k (firstEnd g r) v)) (both (eqb (firstEnd g r) v) (opens entered k (secondEnd g r) v))
 
-abbrev pub leastAllowed : Network → List ℕ → Key → ℕ → ℕ → ℕ
-leastAllowed w entered k c v = leastOf w c (allowed (graphOf w) entered k v)
+abbrev pub leastAllowed : Network → List ℕ → Key → Kind → ℕ → ℕ → ℕ
+leastAllowed w entered k kind c v = leastOf w kind c (allowed (graphOf w) entered k v)
 
 abbrev pub sharpBound : Network → List ℕ → List ℕ
 sharpBound w prefix = boundWith w (leastAllowed w (enteredBy (graphOf w) prefix) (lastKey noKey (keysOr (steps (graphOf w) prefix)))) prefix
+
+-- Closing, sharper: a row of a named street lengthens its closing by what it costs above the rows so far, and all rows that lengthen it share this.
+
+-- what row r adds beside the rows rs where it alone is added: in a named street what it costs above their days
+abbrev pub excessAt : Network → ℕ → List ℕ → ℕ → ℕ
+excessAt w c rs r = pick (eqb (rowAt w r .street) 0) (costAt w c r) (costAt w c r - streetCost w c rs (rowAt w r .street))
+
+-- row r's share of that, where as many rows as `sharers` gives may share its street
+abbrev pub shareAt : Network → ℕ → List ℕ → (ℕ → ℕ) → ℕ → ℕ
+shareAt w c rs sharers r = pick (eqb (rowAt w r .street) 0) (costAt w c r) ((costAt w c r - streetCost w c rs (rowAt w r .street)) / sharers (rowAt w r .street))
+
+-- how many of the nodes vs a row of street s may enter; `test v` tells the rows that may enter v
+abbrev pub sharersOf : Network → (ℕ → ℕ → Bool) → List ℕ → ℕ → ℕ
+sharersOf w test vs s = length (filterB (λ v. any (test v) (inStreet w s (rowNumbers (graphOf w)))) vs)
+
+-- the least that a measure gives to a row that may enter v
+abbrev pub leastBy : Network → (ℕ → ℕ) → (ℕ → Bool) → ℕ
+leastBy w measure test = smallest (map measure (filterB test (rowNumbers (graphOf w))))
+
+-- the closing cost of the rows rs, and the larger of: each node's least share, added up; the largest of the nodes' least excesses
+abbrev pub sharedClosing : Network → (ℕ → ℕ → Bool) → List ℕ → List ℕ → ℕ → ℕ
+sharedClosing w test vs rs c = closingCost w c rs + max
+    (sum (map (λ v. leastBy w (shareAt w c rs (sharersOf w test vs)) (test v)) vs))
+    (largest (map (λ v. leastBy w (excessAt w c rs) (test v)) vs))
+
+abbrev pub sharedBy : Kind → Network → (ℕ → ℕ → Bool) → List ℕ → List ℕ → ℕ → ℕ
+sharedBy added w test vs rs c = boundBy added w (λ c v. leastOf w added c (test v)) vs rs c
+sharedBy worst w test vs rs c = boundBy worst w (λ c v. leastOf w worst c (test v)) vs rs c
+sharedBy closing w test vs rs c = sharedClosing w test vs rs c
+
+unfoldable pub sharedFrom : Network → (ℕ → ℕ → Bool) → List ℕ → List ℕ → ℕ → List Kind → List ℕ
+sharedFrom w test vs rs c [] = []
+sharedFrom w test vs rs c (kind ∷ kinds) = sharedBy kind w test vs rs c ∷ sharedFrom w test vs rs (suc c) kinds
+
+-- the bound with the rows that may still come, as `sharpBound` has it
+abbrev pub sharedBound : Network → List ℕ → List ℕ
+sharedBound w prefix =
+    let entered = enteredBy (graphOf w) prefix in
+    let last = lastKey noKey (keysOr (steps (graphOf w) prefix)) in
+    sharedFrom w (allowed (graphOf w) entered last) (missing (graphOf w) entered) prefix 0 (w .kinds)

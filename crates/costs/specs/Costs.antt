@@ -24,9 +24,9 @@ streetsOf g (r ∷ rs) =
     let rest = streetsOf g rs in
     cond (eqb s 0 || member s rest) rest (s ∷ rest)
 
--- what one named street costs: the days of its rows are added
+-- what one named street costs: it is closed once for all its rows, for the largest days among them
 abbrev pub streetCost : Network → ℕ → List ℕ → ℕ → ℕ
-streetCost g c rs s = sum (map (costAt g c) (inStreet g s rs))
+streetCost g c rs s = largest (map (costAt g c) (inStreet g s rs))
 
 -- Added: the sum over the rows.
 abbrev pub addedCost : Network → ℕ → List ℕ → ℕ

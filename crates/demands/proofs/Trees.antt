@@ -28,6 +28,7 @@ use Rattle.operations.specs.Operations.{check, costCall, costChecks, drawnCheck
 use Rattle.operations.proofs.Costs.{cost-same}
 use Rattle.operations.proofs.Exists.{size-listed, some-in, some-out}
 use Rattle.operations.proofs.Files.{formed}
+use Rattle.operations.proofs.Passing.{greatest-cost}
 use Rattle.demands.specs.Demands.{Drawn, Exists, NoTree, Passes, PathOfTree, Tree, numbers}
 
 module _ (f : List ℕ) (ok : Passes f) where
@@ -57,6 +58,7 @@ module _ (f : List ℕ) (ok : Passes f) where
           λ m. keeps-same net p rows within around (layouts-mem net (formed f a) p .0 m .1),
         );
         priced = cost-same net rows p (tree-out g rows t .once) (tree-out g p (minimal-tree g (formed f a) p minimal) .once) around within;
+        greatest = greatest-cost f a rows t;
       }
 
   -- Order and Cost

@@ -100,7 +100,7 @@ pub record Demand1 (f rows buffer page start costs witnesses : List ℕ) : Type 
   pub front-order : numbers (frontChecks f costs witnesses) ≡ fileNumbers ++ (12 ∷ 11 ∷ [])
 
 -- Demand 2, of a file that passes: each listed layout is a tree of the network, written as its minimal path; each drawn tree is turned into the one
--- minimal path with exactly its rows; each cost is the defined one, over those rows.
+-- minimal path with exactly its rows; each cost is the defined one, over those rows, and at most 31,000,000.
 
 -- a tree exists exactly if Reach's size is n and the must rows have no cycle
 pub record Exists (f : List ℕ) : Type 0 where
@@ -118,6 +118,7 @@ pub record PathOfTree (f rows : List ℕ) : Type 0 where
   -- the list has it exactly if the rows keep the rows' states
   pub listed : T (keepsStates (networkOf f) rows) ↔ (path ∈ layoutsIn f)
   pub priced : costOf (networkOf f) rows ≡ costOf (networkOf f) path
+  pub greatest : (x : ℕ) → x ∈ costOf (networkOf f) rows → x ≤ 31000000
 
 -- Order and Cost of a tree of the network, drawn in any sequence, with room for the answer
 pub record Drawn (f rows path : List ℕ) : Type 0 where

@@ -6,9 +6,9 @@ use mathlib.Core.List.{List, [], _∷_}
 use Prim.Native.Nat.{ℕ}
 use Rattle.graph.specs.Graph.{isTree}
 use Rattle.graph.specs.Paths.{pathOf, trees}
-use Rattle.costs.specs.Costs.{front, frontOf}
+use Rattle.costs.specs.Costs.{costOf, front, frontOf}
 use Rattle.costs.specs.Layouts.{layouts}
-use Rattle.costs.specs.Network.{Network, added, barred, graphOf, must, «open», worst}
+use Rattle.costs.specs.Network.{Network, added, barred, closing, graphOf, must, «open», worst}
 use Rattle.pages.specs.Pages.{Outcome, run}
 use Rattle.tables.specs.Tables.{Found, Plan, Table, pass, placed, plan}
 
@@ -20,6 +20,8 @@ pub data Example : Type 0 where
   -- the front of a network, and of a list of vectors
   frontIs : Network → List (List ℕ) → Example
   frontOfIs : List (List ℕ) → List (List ℕ) → Example
+  -- the cost vector of rows
+  costIs : Network → List ℕ → List ℕ → Example
   -- whether rows are a tree, and their path
   treeIs : Network → List ℕ → Bool → Example
   pathIs : Network → List ℕ → Option (List ℕ) → Example
@@ -35,6 +37,7 @@ Right (treesAre g l) = trees (graphOf g) ≡ l
 Right (layoutsAre g l) = layouts g ≡ l
 Right (frontIs g l) = front g ≡ l
 Right (frontOfIs vs l) = frontOf vs ≡ l
+Right (costIs g rs v) = costOf g rs ≡ v
 Right (treeIs g rs b) = isTree (graphOf g) rs ≡ b
 Right (pathIs g rs o) = pathOf (graphOf g) rs ≡ o
 Right (runIs w l pages o) = run w l [] pages ≡ o
@@ -71,6 +74,19 @@ B = record {
       record { firstEnd = 2; secondEnd = 3; street = 0; state = must; costs = 3 ∷ 6 ∷ [] } ∷ [];
 }
 
+-- Network C: two closing criteria, and rows in street 7, in street 65,535 and off the road.
+abbrev pub C : Network
+C = record {
+  nodeCount = 3;
+  kinds = closing ∷ closing ∷ [];
+  rows =
+      record { firstEnd = 1; secondEnd = 2; street = 7; state = «open»; costs = 3 ∷ 6 ∷ [] } ∷
+      record { firstEnd = 2; secondEnd = 3; street = 7; state = «open»; costs = 5 ∷ 2 ∷ [] } ∷
+      record { firstEnd = 1; secondEnd = 3; street = 0; state = «open»; costs = 4 ∷ 1 ∷ [] } ∷
+      record { firstEnd = 2; secondEnd = 3; street = 65535; state = «open»; costs = 2 ∷ 2 ∷ [] } ∷
+      record { firstEnd = 1; secondEnd = 2; street = 0; state = «open»; costs = 4 ∷ 4 ∷ [] } ∷ [];
+}
+
 -- The bound falls on a member of the front while the table is full of vectors that are no members: a second pass finds it.
 abbrev late : List (List ℕ)
 late = (1 ∷ 9 ∷ []) ∷ (2 ∷ 8 ∷ []) ∷ (5 ∷ 1 ∷ []) ∷ (0 ∷ 3 ∷ []) ∷ []
@@ -85,6 +101,10 @@ table =
     ∷ layoutsAre B ((1 ∷ 3 ∷ []) ∷ (2 ∷ 3 ∷ []) ∷ [])
     ∷ frontIs B ((8 ∷ 6 ∷ []) ∷ [])
     ∷ frontIs A ((7 ∷ 7 ∷ []) ∷ (8 ∷ 6 ∷ []) ∷ (11 ∷ 5 ∷ []) ∷ [])
+    -- a named street is closed once, in each criterion for the largest days of its rows; rows of street 0 count one by one
+    ∷ costIs C (0 ∷ 1 ∷ []) (5 ∷ 6 ∷ [])
+    ∷ costIs C (0 ∷ 1 ∷ 2 ∷ 3 ∷ 4 ∷ []) (15 ∷ 13 ∷ [])
+    ∷ frontIs C ((5 ∷ 6 ∷ []) ∷ (6 ∷ 3 ∷ []) ∷ [])
     ∷ treeIs A (0 ∷ 1 ∷ []) false
     ∷ treeIs A (3 ∷ 2 ∷ []) true
     ∷ pathIs A (3 ∷ 2 ∷ []) (some (2 ∷ 3 ∷ []))

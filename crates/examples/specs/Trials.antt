@@ -1,5 +1,5 @@
 -- Document 01's starred trials, as questions to the definitions of the operations, each with its answer, on network A's file; and trials
--- of document 02's row states (#102) and first witness (#101) on files with the same ends.
+-- of document 02's row states (#102) and first witness (#101) on files with the same ends, and of streets closed once (#103) on network C's.
 use mathlib.Core.Path.{_≡_}
 use mathlib.Core.Bool.{Bool, false, true}
 use mathlib.Core.List.{List, [], _∷_}
@@ -8,8 +8,8 @@ use Rattle.checks.specs.Checks.{Ended, Outcome, answered, refused}
 use Rattle.costs.specs.Costs.{dominates, front}
 use Rattle.costs.specs.Network.{Network}
 use Rattle.network_file.specs.File.{Sizes, networkOf, openOf}
-use Rattle.operations.specs.Operations.{FrontTables, Fronted, Paged, Reached, frontCall, layoutsIn, orderCall, pageCall, reachCall}
-use Rattle.examples.specs.Examples.{A, B}
+use Rattle.operations.specs.Operations.{FrontTables, Fronted, Paged, Reached, costCall, frontCall, layoutsIn, orderCall, pageCall, reachCall}
+use Rattle.examples.specs.Examples.{A, B, C}
 
 -- the 59 bytes of network A's file: the sizes, the kinds, and a line for each row
 abbrev pub fileA : List ℕ
@@ -45,6 +45,17 @@ alike s0 =
     ∷ 2 ∷ 3 ∷ 0 ∷ 0 ∷ 0 ∷ 0 ∷ 0 ∷ 0 ∷ 3 ∷ 0 ∷ 0 ∷ 0 ∷ 6
     ∷ []
 
+-- network C's file: closing criteria, streets 7 and 65,535, and rows off the road
+abbrev pub fileC : List ℕ
+fileC =
+    1 ∷ 0 ∷ 0 ∷ 0 ∷ 66 ∷ 3 ∷ 0 ∷ 5 ∷ 2 ∷ 2 ∷ 2
+    ∷ 1 ∷ 2 ∷ 0 ∷ 7 ∷ 0 ∷ 0 ∷ 0 ∷ 3 ∷ 0 ∷ 0 ∷ 0 ∷ 6
+    ∷ 2 ∷ 3 ∷ 0 ∷ 7 ∷ 0 ∷ 0 ∷ 0 ∷ 5 ∷ 0 ∷ 0 ∷ 0 ∷ 2
+    ∷ 1 ∷ 3 ∷ 0 ∷ 0 ∷ 0 ∷ 0 ∷ 0 ∷ 4 ∷ 0 ∷ 0 ∷ 0 ∷ 1
+    ∷ 2 ∷ 3 ∷ 255 ∷ 255 ∷ 0 ∷ 0 ∷ 0 ∷ 2 ∷ 0 ∷ 0 ∷ 0 ∷ 2
+    ∷ 1 ∷ 2 ∷ 0 ∷ 0 ∷ 0 ∷ 0 ∷ 0 ∷ 4 ∷ 0 ∷ 0 ∷ 0 ∷ 4
+    ∷ []
+
 -- each of a file
 pub data Trial : Type 0 where
   opened : List ℕ → Outcome Sizes → Trial
@@ -54,6 +65,8 @@ pub data Trial : Type 0 where
   reached : List ℕ → Outcome Reached → Trial
   -- Order of these rows into a buffer of three places
   order : List ℕ → List ℕ → Ended (Unit {0}) (List ℕ) → Trial
+  -- Cost of them, likewise
+  cost : List ℕ → List ℕ → Ended (Unit {0}) (List ℕ) → Trial
   -- Page after this path, with a page of three places
   page : List ℕ → List ℕ → Ended Paged (List ℕ) → Trial
   -- Front with tables of three places each, which hold one row
@@ -71,6 +84,7 @@ Right (list f l) = layoutsIn f ≡ l
 Right (fronts f l) = front (networkOf f) ≡ l
 Right (reached f o) = reachCall f ≡ o
 Right (order f rows e) = orderCall f rows buffer ≡ e
+Right (cost f rows e) = costCall f rows buffer ≡ e
 Right (page f start e) = pageCall f buffer start ≡ e
 Right (frontIn f e) = frontCall f buffer buffer ≡ e
 Right (dominance v w b) = dominates v w ≡ b
@@ -79,8 +93,9 @@ abbrev pub AllRight : List Trial → Type 0
 AllRight [] = Unit {0}
 AllRight (t ∷ l) = Right t × AllRight l
 
-abbrev ordered : List ℕ → Ended (Unit {0}) (List ℕ)
-ordered after = record { outcome = answered tt; buffers = after }
+-- Order and Cost answer by what they write
+abbrev wrote : List ℕ → Ended (Unit {0}) (List ℕ)
+wrote after = record { outcome = answered tt; buffers = after }
 
 abbrev refusedBy : {A : Type 0} → ℕ → Ended A (List ℕ)
 refusedBy e = record { outcome = refused e; buffers = buffer }
@@ -97,8 +112,8 @@ table =
     ∷ network fileA A
     ∷ list fileA ((0 ∷ 2 ∷ []) ∷ (0 ∷ 3 ∷ []) ∷ (1 ∷ 2 ∷ []) ∷ (1 ∷ 3 ∷ []) ∷ (2 ∷ 3 ∷ []) ∷ [])
     ∷ fronts fileA ((7 ∷ 7 ∷ []) ∷ (8 ∷ 6 ∷ []) ∷ (11 ∷ 5 ∷ []) ∷ [])
-    ∷ order fileA (2 ∷ 0 ∷ []) (ordered (0 ∷ 2 ∷ 9 ∷ []))
-    ∷ order fileA (3 ∷ 2 ∷ []) (ordered (2 ∷ 3 ∷ 9 ∷ []))
+    ∷ order fileA (2 ∷ 0 ∷ []) (wrote (0 ∷ 2 ∷ 9 ∷ []))
+    ∷ order fileA (3 ∷ 2 ∷ []) (wrote (2 ∷ 3 ∷ 9 ∷ []))
     ∷ order fileA (0 ∷ 1 ∷ []) (refusedBy 10)
     ∷ order fileA (0 ∷ 0 ∷ []) (refusedBy 10)
     ∷ order fileA (0 ∷ []) (refusedBy 8)
@@ -116,7 +131,7 @@ table =
     -- the trees with row 3 and without row 0; 10 keeps its plain sense, then 15: row 0 drawn, row 3 left out
     ∷ list fileB ((1 ∷ 3 ∷ []) ∷ (2 ∷ 3 ∷ []) ∷ [])
     ∷ fronts fileB ((8 ∷ 6 ∷ []) ∷ [])
-    ∷ order fileB (3 ∷ 1 ∷ []) (ordered (1 ∷ 3 ∷ 9 ∷ []))
+    ∷ order fileB (3 ∷ 1 ∷ []) (wrote (1 ∷ 3 ∷ 9 ∷ []))
     ∷ order fileB (0 ∷ 1 ∷ []) (refusedBy 10)
     ∷ order fileB (0 ∷ 3 ∷ []) (refusedBy 15)
     ∷ order fileB (2 ∷ 1 ∷ []) (refusedBy 15)
@@ -134,4 +149,10 @@ table =
     ∷ frontIn (alike 0) (fronted 1 false (7 ∷ 7 ∷ 9 ∷ []) (0 ∷ 3 ∷ 9 ∷ []))
     ∷ frontIn (alike 2) (fronted 1 false (7 ∷ 7 ∷ 9 ∷ []) (1 ∷ 3 ∷ 9 ∷ []))
     ∷ frontIn (withStates 1 1 0 0) (record { outcome = refused 12; buffers = record { costs = buffer; witnesses = buffer } })
+    -- document 02, #103: rows of 3 and 5 days in street 7 cost 5, where they cost 8 before, and rows off the road one by one
+    ∷ network fileC C
+    ∷ cost fileC (1 ∷ 0 ∷ []) (wrote (5 ∷ 6 ∷ 9 ∷ []))
+    ∷ cost fileC (0 ∷ 3 ∷ []) (wrote (5 ∷ 8 ∷ 9 ∷ []))
+    ∷ cost fileC (2 ∷ 4 ∷ []) (wrote (8 ∷ 5 ∷ 9 ∷ []))
+    ∷ frontIn fileC (fronted 1 false (5 ∷ 6 ∷ 9 ∷ []) (0 ∷ 1 ∷ 9 ∷ []))
     ∷ []

@@ -10,6 +10,7 @@ use lib.Dec.{T, ltb, ltb→lt, lt→ltb}
 use Rattle.lists.specs.Lists.{filterB}
 use Rattle.lists.proofs.Distinct.{mem?}
 use Rattle.lists.proofs.Members.{_∈_, filter-in, filter-out, mem-elim, nil-⊆}
+use Rattle.lists.proofs.Sums.{sum-within}
 use Rattle.graph.specs.Graph.{Graph, firstEnd, isTree, rowNumbers, secondEnd}
 use Rattle.graph.specs.Paths.{trees}
 use Rattle.graph.proofs.Minimal.{WellFormed, rowNumbers-in}
@@ -22,7 +23,7 @@ use Rattle.forests.proofs.Cuts.{cut-gone, cut-in, cut-out, find?}
 use Rattle.forests.proofs.Exchange.{exchange}
 use Rattle.forests.proofs.Forest.{Free, forest-known, forest-nil, free?}
 use Rattle.forests.proofs.Joined.{Joined, Lies, joined-by, joined-ends}
-use Rattle.forests.proofs.Minimum.{Lightest, weight-part, weight-swap}
+use Rattle.forests.proofs.Minimum.{Lightest, weight-swap}
 use Rattle.forests.proofs.Parts.{Spans, spans-all}
 use Rattle.forests.proofs.Spanning.{extension, tree-forest, tree-spans}
 
@@ -69,7 +70,7 @@ module _ (g : Graph) (wf : WellFormed g) (w : ℕ → ℕ) where
         listed-tree g wf j,
         λ ss y.
             let (c, k, (x, z)) = tree-listed g wf ss y in
-            omega (arith, h c k, weight-part w c ss (tree-out g c (listed-tree g wf k) .once) (tree-out g ss y .once) x),
+            omega (arith, h c k, sum-within w c (tree-out g c (listed-tree g wf k) .once) x),
       )
 
   module _ (ts : List ℕ) (t : T (isTree g ts)) (h : Lightest g w ts) (f e : ℕ) (i : f ∈ ts) (s : T (isTree g (swap f e ts))) where

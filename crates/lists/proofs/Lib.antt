@@ -1,6 +1,7 @@
 pub mod Tests
 pub mod Members
 pub mod Distinct
+pub mod Sums
 pub mod Maps
 pub mod Sequences
 pub mod Orders

@@ -185,6 +185,16 @@ module _ {A : Type 0} (p : A → Bool) where
   unfolding filterB
   filter-skip a l n = rw (T-false (p a) .0 n)
 
+  pub filter-keep : (a : A) (l : List A) → T (p a) → filterB p (a ∷ l) ≡ a ∷ filterB p l
+  unfolding filterB
+  filter-keep a l t = rw (T-true (p a) .0 t)
+
+  -- none of l passes
+  pub filter-none : (l : List A) → ((a : A) → a ∈ l → ¬ T (p a)) → filterB p l ≡ []
+  unfolding filterB
+  filter-none [] h = refl
+  filter-none (a ∷ l) h = filter-skip a l (h a (here refl)) ∙ filter-none l (λ b m. h b (there m))
+
   pub filter-whole : (l : List A) → ((a : A) → a ∈ l → T (p a)) → filterB p l ≡ l
   unfolding filterB
   filter-whole [] h = refl

@@ -1,4 +1,4 @@
-//! Document 01's trials that are not starred, some of the others and some of version 2, worked by the library's functions for Rust and C.
+//! Document 01's trials that are not starred, some of the others, some of version 2 and of closed streets, worked by the library's functions for Rust and C.
 //! A line says what was tried, and what the call gives; or by which check it is refused, and what the buffer keeps. The file stdout has what
 //! must come out. The starred trials are theorems (crate examples).
 use libc::STDOUT_FILENO;
@@ -29,7 +29,7 @@ fn came(line: Line, code: u32) -> Line {
 
 // Open, of a file that has so many of this: n, m and k.
 fn open(what: &[u8], many: u64, file: &[u8]) {
-    let mut answer = [5; 3];
+    let mut answer = [99; 3];
     let code = planner_open(file, &mut answer);
     write(came(Line::start().text(what).number(many), code).costs(&answer));
 }
@@ -41,33 +41,33 @@ fn tell(what: &[u8], rows: &[u16], code: u32, answer: &[u32]) {
 
 // Reach: the word and the size.
 fn reach(file: &[u8]) {
-    let mut answer = [5; 2];
+    let mut answer = [99; 2];
     let code = planner_reach(file, &mut answer);
     tell(b"reach", &[], code, &answer);
 }
 
 fn order(file: &[u8], rows: &[u16]) {
-    let mut path = [5; 3];
+    let mut path = [99; 3];
     let code = planner_order(file, rows, &mut path);
     write(came(Line::start().text(b"order").rows(rows), code).rows(&path));
 }
 
 fn cost(file: &[u8], rows: &[u16]) {
-    let mut vector = [5; 3];
+    let mut vector = [99; 3];
     let code = planner_cost(file, rows, &mut vector);
     tell(b"cost", rows, code, &vector);
 }
 
 // Page after a path, which is empty at the start: the count, and 1 for 'more'.
 fn page(file: &[u8], page: &mut [u16], start: &[u16]) {
-    let mut answer = [5; 2];
+    let mut answer = [99; 2];
     let code = planner_page(file, page, start, &mut answer);
     tell(b"page", start, code, &answer);
 }
 
 // Front: the count, and 1 for 'whole'.
 fn front(file: &[u8], costs: &mut [u32], witnesses: &mut [u16]) {
-    let mut answer = [5; 2];
+    let mut answer = [99; 2];
     let code = planner_front(file, costs, witnesses, &mut answer);
     tell(b"front", &[], code, &answer);
 }
@@ -144,7 +144,7 @@ fn pick(file: &[u8]) {
     write(Line::start().text(b"pick").rows(pick::pick(3, &places, 1)));
 }
 
-// The front of network A in tables of one row and of three, and what they hold.
+// The front of a network like A in tables of one row and of three, and what they hold.
 fn fronts(file: &[u8]) {
     let mut vector = [0; 2];
     let mut tree = [0; 2];
@@ -165,6 +165,20 @@ fn network_a() {
     reach(file);
     draw(file);
     pick(file);
+    fronts(file);
+}
+
+// Rows of 3 and 5 days in street 7, and in a second criterion of 6 and 2; one row in street 65,535, two off the road.
+fn network_c() {
+    let file = b"\x01\x00\x00\x00\x42\x03\x00\x05\x02\x02\x02\
+        \x01\x02\x00\x07\x00\x00\x00\x03\x00\x00\x00\x06\
+        \x02\x03\x00\x07\x00\x00\x00\x05\x00\x00\x00\x02\
+        \x01\x03\x00\x00\x00\x00\x00\x04\x00\x00\x00\x01\
+        \x02\x03\xff\xff\x00\x00\x00\x02\x00\x00\x00\x02\
+        \x01\x02\x00\x00\x00\x00\x00\x04\x00\x00\x00\x04";
+    cost(file, &[1, 0]);
+    cost(file, &[0, 3]);
+    cost(file, &[2, 4]);
     fronts(file);
 }
 
@@ -225,6 +239,7 @@ fn main() {
     state(3);
     state(2);
     network_a();
+    network_c();
     four_nodes();
     five_nodes();
 }

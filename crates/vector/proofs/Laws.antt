@@ -13,9 +13,8 @@ use mir.Syntax.{w8}
 use mir.Val.{Fits}
 use borrow.Author.Tests.{eq-eqb, le-ltb, lt-ltb, ne-eqb}
 use Rattle.lists.specs.Lists.{any, filterB, largest, sum}
-use Rattle.lists.proofs.Members.{filter-length}
 use Rattle.graph.specs.Paths.{Key}
-use Rattle.costs.specs.Costs.{addedCost, costAt, inStreet, streetCost, worstCost}
+use Rattle.costs.specs.Costs.{addedCost, costAt, streetCost, worstCost}
 use Rattle.costs.specs.Network.{Network, rowAt}
 use Rattle.bounds.proofs.Limits.{added-most}
 use Rattle.network_file.specs.File.{Sizes, byteAt, kindOf, networkOf, sizesOf, u16At, u32At}
@@ -23,7 +22,7 @@ use Rattle.fields.proofs.Laws.{cost-in, cost-nowhere, cost-past}
 use Rattle.paths.specs.Path.{keysOf, lengthOf, rowsIn}
 use Rattle.paths.specs.declared.Path.{Path}
 use Rattle.paths.proofs.Laws.{keys-length}
-use Rattle.vector.specs.Vector.{Counted, costByte, criterionOf, liesIn, stepRow}
+use Rattle.vector.specs.Vector.{Counted, costByte, criterionOf, stepRow}
 
 pub path-counted : (p : Path) (n : ℕ) → n ≡ lengthOf p → length (p .nodes) ≡ 32 → length (p .rows) ≡ 31 → length (p .pivots) ≡ 31 → Counted (rowsIn p) n
 path-counted p n e nodes rows pivots =
@@ -52,7 +51,7 @@ module _ {rows : List ℕ} {n : ℕ} (counted : Counted rows n) (i : ℕ) where
     unfolding any
     any-past h = ap (any p) (past h)
 
--- The rules of cost, in a loop that has come to step i with `so`, the sum or the largest so far; x is the cost of the row at step i
+-- The rules of cost, in a loop that has come to step i with `so`, the sum or the largest so far; x is the cost of the row at step i, `now` what comes next
 
 pub record AddedTo (g : Network) (c : ℕ) (rows : List ℕ) (i so : ℕ) : Type 0 where
   pub comes : addedCost g c rows ≡ so + addedCost g c (drop i rows)
@@ -62,7 +61,7 @@ pub record WorstTo (g : Network) (c : ℕ) (rows : List ℕ) (i so : ℕ) : Type
 
 -- of the rows in street s
 pub record StreetTo (g : Network) (c s : ℕ) (rows : List ℕ) (i so : ℕ) : Type 0 where
-  pub comes : streetCost g c rows s ≡ so + streetCost g c (drop i rows) s
+  pub comes : streetCost g c rows s ≡ max so (streetCost g c (drop i rows) s)
 
 module _ {g : Network} {c : ℕ} {rows : List ℕ} {n i so : ℕ} (counted : Counted rows n) where
   pub added-turn : {x : ℕ} → i < n → AddedTo g c rows i so → x ≡ costAt g c (stepRow rows i) → AddedTo g c rows (i + 1) (so + x)
@@ -73,23 +72,19 @@ module _ {g : Network} {c : ℕ} {rows : List ℕ} {n i so : ℕ} (counted : Cou
   unfolding sum
   added-end h inv = omega (arith, ap (addedCost g c) (past counted i h))
 
-  pub worst-more : {x : ℕ} → i < n → WorstTo g c rows i so → x ≡ costAt g c (stepRow rows i) → so < x → WorstTo g c rows (i + 1) x
+  pub worst-turn : {x now : ℕ} → i < n → WorstTo g c rows i so → x ≡ costAt g c (stepRow rows i) → now ≡ max so x → WorstTo g c rows (i + 1) now
   unfolding largest
-  worst-more h inv e l = record { comes = omega (arith, ap (worstCost g c) (next counted i h)) }
-
-  pub worst-same : {x : ℕ} → i < n → WorstTo g c rows i so → x ≡ costAt g c (stepRow rows i) → x ≤ so → WorstTo g c rows (i + 1) so
-  unfolding largest
-  worst-same h inv e l = record { comes = omega (arith, ap (worstCost g c) (next counted i h)) }
+  worst-turn h inv e larger = record { comes = omega (arith, ap (worstCost g c) (next counted i h)) }
 
   pub worst-end : n ≤ i → WorstTo g c rows i so → so ≡ worstCost g c rows
   unfolding largest
   worst-end h inv = omega (arith, ap (worstCost g c) (past counted i h))
 
   module _ {s : ℕ} where
-    pub street-turn : {x : ℕ} → i < n → StreetTo g c s rows i so → rowAt g (stepRow rows i) .street ≡ s → x ≡ costAt g c (stepRow rows i)
-        → StreetTo g c s rows (i + 1) (so + x)
-    unfolding sum filterB
-    street-turn h inv on e =
+    pub street-turn : {x now : ℕ} → i < n → StreetTo g c s rows i so → rowAt g (stepRow rows i) .street ≡ s → x ≡ costAt g c (stepRow rows i)
+        → now ≡ max so x → StreetTo g c s rows (i + 1) now
+    unfolding largest filterB
+    street-turn h inv on e larger =
         record { comes = omega (arith, rw (eq-eqb _ _ on) at (ap (λ (l : List ℕ). streetCost g c l s) (next counted i h))) }
 
     pub street-skip : i < n → StreetTo g c s rows i so → (rowAt g (stepRow rows i) .street ≡ s → ⊥) → StreetTo g c s rows (i + 1) so
@@ -98,7 +93,7 @@ module _ {g : Network} {c : ℕ} {rows : List ℕ} {n i so : ℕ} (counted : Cou
         record { comes = omega (arith, rw (ne-eqb _ _ off) at (ap (λ (l : List ℕ). streetCost g c l s) (next counted i h))) }
 
     pub street-end : n ≤ i → StreetTo g c s rows i so → so ≡ streetCost g c rows s
-    unfolding sum filterB
+    unfolding largest filterB
     street-end h inv = omega (arith, ap (λ (l : List ℕ). streetCost g c l s) (past counted i h))
 
 -- No sum is too large: a cost is a number of four bytes
@@ -120,10 +115,6 @@ module _ (f : List ℕ) (bytes : (i : ℕ) → Fits w8 (byteAt f i)) where
   module _ {c : ℕ} {rows : List ℕ} {n i so : ℕ} (counted : Counted rows n) where
     pub added-fits : AddedTo (networkOf f) c rows i so → so ≤ 31 * 4294967295
     added-fits inv = omega (arith, added-most (networkOf f) 4294967295 cost-word c rows)
-
-    pub street-fits : {s : ℕ} → StreetTo (networkOf f) c s rows i so → so ≤ 31 * 4294967295
-    street-fits {s} inv =
-        omega (arith, added-most (networkOf f) 4294967295 cost-word c (inStreet (networkOf f) s rows), filter-length (liesIn (networkOf f) s) rows)
 
 -- A criterion's cost, where the code has read the file's sizes s
 

@@ -62,6 +62,22 @@ module _ (g : Network) (c : ℕ) (rows : List ℕ) where
   closing-part (suc i) [] = omega arith
   closing-part (suc i) (r ∷ last) = omega (arith, closing-part i last, closing-cons r last)
 
+-- What step i adds, whose row is in street s: the three cases of `closingStep`
+
+module _ (g : Network) (c : ℕ) (rows : List ℕ) (i : ℕ) {s : ℕ} (street : s ≡ rowAt g (stepRow rows i) .street) where
+  pub closing-off : {x : ℕ} → s ≡ 0 → x ≡ costAt g c (stepRow rows i) → x ≡ closingAt g c rows i
+  unfolding closingAt closingStep
+  closing-off off cost = rw (← street, eq-eqb s 0 off) cost
+
+  module _ (named : s ≡ 0 → ⊥) where
+    pub closing-later : any (liesIn g s) (drop (i + 1) rows) ≡ true → 0 ≡ closingAt g c rows i
+    unfolding closingAt closingStep
+    closing-later behind = rw (← street, ne-eqb s 0 named, behind)
+
+    pub closing-last : {x : ℕ} → any (liesIn g s) (drop (i + 1) rows) ≡ false → x ≡ streetCost g c rows s → x ≡ closingAt g c rows i
+    unfolding closingAt closingStep
+    closing-last behind cost = rw (← street, ne-eqb s 0 named, behind) cost
+
 -- The loop has come back to step i with the sum so far; x is what step i - 1 adds
 
 pub record ClosingTo (g : Network) (c : ℕ) (rows : List ℕ) (i so : ℕ) : Type 0 where

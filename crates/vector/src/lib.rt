@@ -1,7 +1,7 @@
 //! The cost vector of a path: for each criterion what its kind makes of the costs of the path's rows.
 //! A path has at most 31 rows and a cost is below 2 to the power 32, so that the sums fit 64 bits for any file.
 ghost use mathlib.Core.Path.{_≡_};
-ghost use Prim.Native.Nat.{_<_};
+ghost use Prim.Native.Nat.{_<_, max};
 ghost use lib.ListN.{drop};
 ghost use Rattle.lists.specs.Lists.{any};
 ghost use Rattle.costs.specs.Costs.{addedCost, closingCost, costAt, streetCost, worstCost};
@@ -53,6 +53,12 @@ pub fn added(file: &[u8], criterion: usize, path: Path) -> u64
     sum
 }
 
+fn larger(a: u64, b: u64) -> u64
+    ensures { λ r. ⌜ r ≡ max a b ⌝ }
+{
+    if a < b { b } else { a }
+}
+
 /// The largest cost among the rows.
 pub fn worst(file: &[u8], criterion: usize, path: Path) -> u64
     ensures { λ r. ⌜ r ≡ worstCost (networkOf (now (file .entry))) criterion (rowsIn path) ⌝ }
@@ -61,30 +67,28 @@ pub fn worst(file: &[u8], criterion: usize, path: Path) -> u64
     let mut most: u64 = 0;
     let mut i: usize = 0;
     while i < n {
-        let cost = cost_of(file, criterion, path, i);
+        most = larger(most, cost_of(file, criterion, path, i));
         i += 1;
-        if most < cost {
-            most = cost;
-        }
     }
     most
 }
 
-/// What one named street costs: the days of its rows are added.
+/// What one named street costs: it is closed once for all its rows, for the largest days among them.
 pub fn street_cost(file: &[u8], criterion: usize, path: Path, street: u16) -> u64
     ensures { λ r. ⌜ r ≡ streetCost (networkOf (now (file .entry))) criterion (rowsIn path) street ⌝ }
 {
     let n = steps(path);
-    let mut sum: u64 = 0;
+    let mut most: u64 = 0;
     let mut i: usize = 0;
     while i < n {
         let at = i;
+        let here = street_of(file, path, at);
         i += 1;
-        if street_of(file, path, at) == street {
-            sum += cost_of(file, criterion, path, at);
+        if here == street {
+            most = larger(most, cost_of(file, criterion, path, at));
         }
     }
-    sum
+    most
 }
 
 /// Whether a row from step i on lies in the street.

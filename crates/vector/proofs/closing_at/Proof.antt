@@ -1,14 +1,14 @@
--- The three cases of `closingStep`: street 0, a street that comes later again, the last row of a street.
+-- The three cases of what a step adds: street 0, a street that comes later again, the last row of a street.
 use mathlib.Core.Path.{_∙_, _≡_, sym}
 use mathlib.Core.Bool.{false}
 use Prim.Native.Nat.{_+_}
 use lib.ListN.{drop}
 use borrow.Author.Needs.{needs}
-use borrow.Author.Tests.{eq-eqb, ne-eqb}
 use Rattle.lists.specs.Lists.{any}
 use Rattle.network_file.specs.File.{networkOf}
 use Rattle.paths.specs.Path.{rowsIn}
-use Rattle.vector.specs.Vector.{closingAt, closingStep, liesIn}
+use Rattle.vector.specs.Vector.{liesIn}
+use Rattle.vector.proofs.Streets.{closing-last, closing-later, closing-off}
 use Rattle.vector.proofs.closing_at.Statement.{statement}
 use Rattle.vector.proofs.closing_at.Tie as tie
 
@@ -19,8 +19,7 @@ cost-of-requires : tie.Need-cost-of-requires
 cost-of-requires c κs = search needs
 
 returns : tie.Need-returns
-unfolding closingAt closingStep
-returns c = rw (← c .before .before .street-of .ensures, eq-eqb _ _ (c .before .if1 .taken)) (c .cost-of .ensures)
+returns c = closing-off _ _ _ _ (c .before .before .street-of .ensures) (c .before .if1 .taken) (c .cost-of .ensures)
 
 add-comes-later : tie.Need-add-comes-later
 add-comes-later c = search needs
@@ -35,18 +34,15 @@ none-later : (c : tie.Else2)
 none-later c = sym (c .before .comes-later .ensures) ∙ c .if2 .left
 
 returns-2 : tie.Need-returns-2
-unfolding closingAt closingStep
 returns-2 c =
-    rw (← c .before .before .before .street-of .ensures, ne-eqb _ _ (c .before .before .if1 .left), sym (c .before .comes-later .ensures) ∙ c .if2 .taken)
+    closing-later _ _ _ _ (c .before .before .before .street-of .ensures) (c .before .before .if1 .left) (sym (c .before .comes-later .ensures) ∙ c .if2 .taken)
 
 street-cost-requires : tie.Need-street-cost-requires
 street-cost-requires c κs = search needs
 
 returns-3 : tie.Need-returns-3
-unfolding closingAt closingStep
 returns-3 c =
-    rw (← c .before .before .before .before .street-of .ensures, ne-eqb _ _ (c .before .before .before .if1 .left), none-later (c .before))
-    (c .street-cost .ensures)
+    closing-last _ _ _ _ (c .before .before .before .before .street-of .ensures) (c .before .before .before .if1 .left) (none-later (c .before)) (c .street-cost .ensures)
 
 pub closing-at-spec : {M : Type 1} → statement M
 closing-at-spec =

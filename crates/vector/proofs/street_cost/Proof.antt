@@ -1,19 +1,18 @@
--- The loop's invariant: what the street costs is the sum so far and what it costs from step i on.
+-- The loop's invariant: what the street costs is the larger of the largest so far and what it costs from step i on. Its measure: the steps to come.
 use mathlib.Core.Path.{_∙_, sym}
 use Prim.Native.Nat.{_-_}
-use native.Mathlib.Omega.{arith}
 use borrow.Author.Needs.{needs}
 use Rattle.network_file.specs.File.{networkOf}
 use Rattle.paths.specs.Path.{rowsIn}
-use Rattle.vector.proofs.Laws.{StreetTo, street-end, street-fits, street-skip, street-turn}
+use Rattle.vector.proofs.Laws.{StreetTo, street-end, street-skip, street-turn}
 use Rattle.vector.proofs.street_cost.Statement.{statement}
 use Rattle.vector.proofs.street_cost.Tie as tie
 
 abbrev Inv-loop : tie.InvT-loop
-Inv-loop file criterion path street n sum₀ i₀ sum i = StreetTo (networkOf file) criterion street (rowsIn path) i sum
+Inv-loop file criterion path street n most₀ i₀ most i = StreetTo (networkOf file) criterion street (rowsIn path) i most
 
 abbrev μ-loop : tie.MeasureT-loop
-μ-loop file criterion path street n sum₀ i₀ sum i = n - i
+μ-loop file criterion path street n most₀ i₀ most i = n - i
 
 steps-requires : tie.Need-steps-requires Inv-loop μ-loop
 steps-requires c κs = search needs
@@ -21,30 +20,25 @@ steps-requires c κs = search needs
 loop-holds : tie.Need-loop-holds Inv-loop μ-loop
 loop-holds c = search needs
 
-add-i : tie.Need-add-i Inv-loop μ-loop
-add-i c = search needs
-
 street-of-requires : tie.Need-street-of-requires Inv-loop μ-loop
 street-of-requires c κs = search needs
 
+add-i : tie.Need-add-i Inv-loop μ-loop
+add-i c = search needs
+
 cost-of-requires : tie.Need-cost-of-requires Inv-loop μ-loop
 cost-of-requires c κs = search needs
+
+larger-requires : tie.Need-larger-requires Inv-loop μ-loop
+larger-requires c κs = search needs
 
 loop-less : tie.Need-loop-less Inv-loop μ-loop
 loop-less c = search needs
 
 loop-again : tie.Need-loop-again Inv-loop μ-loop
 loop-again c =
-    street-turn (c .before .before .before .before .before .steps .ensures) (c .before .before .before .loop-test .taken) (c .before .before .before .before .loop .inv)
-    (sym (c .before .before .street-of .ensures) ∙ c .before .if1 .taken) (c .cost-of .ensures)
-
-add-sum : tie.Need-add-sum Inv-loop μ-loop
-add-sum c =
-    omega (
-      arith,
-      street-fits (c .before .before .before .before .before .before .before .args .file .now) (c .before .before .before .before .before .before .shared-slice-known .given)
-          (c .before .before .before .before .before .steps .ensures) (loop-again c),
-    )
+    street-turn (c .before .before .before .before .before .before .steps .ensures) (c .before .before .before .before .loop-test .taken) (c .before .before .before .before .before .loop .inv)
+    (sym (c .before .before .before .street-of .ensures) ∙ c .before .before .if1 .taken) (c .before .cost-of .ensures) (c .larger .ensures)
 
 loop-less-2 : tie.Need-loop-less-2 Inv-loop μ-loop
 loop-less-2 c = search needs
@@ -65,10 +59,10 @@ street-cost-spec =
     μ-loop
     steps-requires
     loop-holds
-    add-i
     street-of-requires
+    add-i
     cost-of-requires
-    add-sum
+    larger-requires
     loop-less
     loop-again
     loop-less-2

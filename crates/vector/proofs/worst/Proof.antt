@@ -1,9 +1,9 @@
--- The loop's invariant: the largest of all costs is the larger of the largest so far and that from step i on.
+-- The loop's invariant: the largest of all costs is the larger of the largest so far and that from step i on. Its measure: the steps to come.
 use Prim.Native.Nat.{_-_}
 use borrow.Author.Needs.{needs}
 use Rattle.network_file.specs.File.{networkOf}
 use Rattle.paths.specs.Path.{rowsIn}
-use Rattle.vector.proofs.Laws.{WorstTo, worst-end, worst-more, worst-same}
+use Rattle.vector.proofs.Laws.{WorstTo, worst-end, worst-turn}
 use Rattle.vector.proofs.worst.Statement.{statement}
 use Rattle.vector.proofs.worst.Tie as tie
 
@@ -22,6 +22,9 @@ loop-holds c = search needs
 cost-of-requires : tie.Need-cost-of-requires Inv-loop μ-loop
 cost-of-requires c κs = search needs
 
+larger-requires : tie.Need-larger-requires Inv-loop μ-loop
+larger-requires c κs = search needs
+
 add-i : tie.Need-add-i Inv-loop μ-loop
 add-i c = search needs
 
@@ -30,16 +33,7 @@ loop-less c = search needs
 
 loop-again : tie.Need-loop-again Inv-loop μ-loop
 loop-again c =
-    worst-more (c .before .before .before .before .steps .ensures) (c .before .before .loop-test .taken) (c .before .before .before .loop .inv)
-    (c .before .cost-of .ensures) (c .if1 .taken)
-
-loop-less-2 : tie.Need-loop-less-2 Inv-loop μ-loop
-loop-less-2 c = search needs
-
-loop-again-2 : tie.Need-loop-again-2 Inv-loop μ-loop
-loop-again-2 c =
-    worst-same (c .before .before .before .before .steps .ensures) (c .before .before .loop-test .taken) (c .before .before .before .loop .inv)
-    (c .before .cost-of .ensures) (c .if1 .left)
+    worst-turn (c .before .before .before .before .steps .ensures) (c .before .before .loop-test .taken) (c .before .before .before .loop .inv) (c .before .cost-of .ensures) (c .larger .ensures)
 
 returns : tie.Need-returns Inv-loop μ-loop
 returns c = worst-end (c .before .before .steps .ensures) (c .loop-test .left) (c .before .loop .inv)
@@ -53,9 +47,8 @@ worst-spec =
     steps-requires
     loop-holds
     cost-of-requires
+    larger-requires
     add-i
     loop-less
     loop-again
-    loop-less-2
-    loop-again-2
     returns)
