@@ -4,10 +4,10 @@ use mathlib.Core.Path.{_≡_, refl, subst}
 use mathlib.Core.Logic.{inl, inr, ⊎-elim}
 use mathlib.Core.Bool.{Bool}
 use mathlib.Core.List.{List, [], _∷_, List·Memᴰ·head as here, map, Memᴰ·of-map as map-out, Memᴰ·map as map-in, List·Memᴰ·not-nil as mem-nil, List·Memᴰ·tail as there}
-use Prim.Native.Nat.{_≤_, min, suc, ℕ}
+use Prim.Native.Nat.{_≤_, min, ℕ}
 use native.Mathlib.Decide.{decLe}
 use native.Mathlib.Omega.{arith}
-use lib.Dec.{T, eqb, le→leb}
+use lib.Dec.{T, eqb}
 use Rattle.lists.specs.Lists.{both, filterB}
 use Rattle.lists.proofs.Members.{_∈_, filter-in, filter-out}
 use Rattle.lists.proofs.Sums.{largest-larger, sum-larger}
@@ -17,29 +17,25 @@ use Rattle.graph.specs.Paths.{Key, steps, trees}
 use Rattle.graph.proofs.Growth.{start}
 use Rattle.graph.proofs.Trees.{trees-mem}
 use Rattle.graph.proofs.Walk.{stateAfter}
-use Rattle.costs.specs.Costs.{costBy, costOf, costsFrom, noneLarger}
+use Rattle.costs.specs.Costs.{costBy, costOf, noneLarger}
 use Rattle.costs.specs.Network.{Kind, Network, added, closing, graphOf, worst}
-use Rattle.bounds.specs.Bounds.{allowed, begins, boundBy, boundWith, boundsFrom, enteredBy, gainAt, keysOr, lastKey, leastAllowed, leastAt, leastOf, lowerBound, missing, noKey, opens, sharpBound, smallest, touches}
-use Rattle.bounds.proofs.Lower.{branch-later, branched, leastOf-below, tree-formed}
+use Rattle.costs.proofs.Criteria.{kinds-below}
+use Rattle.bounds.specs.Bounds.{allowed, begins, boundBy, boundWith, boundsOver, enteredBy, gainAt, keysOr, lastKey, leastAllowed, leastAt, leastOf, lowerBound, missing, noKey, opens, sharpBound, smallest, touches}
+use Rattle.bounds.proofs.Lower.{branch-later, branched, least-below, tree-formed}
 use Rattle.bounds.proofs.Missing.{entered-is, missing-entered, step-legal}
 use Rattle.bounds.proofs.Sharp.{later-allowed}
 
 -- A bound is at least what the prefix costs.
 
 -- by each kind
-cost-by : (w : Network) (least : ℕ → ℕ → ℕ) (vs rs : List ℕ) (c : ℕ) (kind : Kind) → costBy kind w c rs ≤ boundBy kind w least vs rs c
-cost-by w least vs rs c added = omega arith
-cost-by w least vs rs c worst = omega arith
-cost-by w least vs rs c closing = omega arith
-
-cost-from : (w : Network) (least : Kind → ℕ → ℕ → ℕ) (vs rs : List ℕ) (c : ℕ) (kinds : List Kind) → T (noneLarger (costsFrom w c kinds rs) (boundsFrom w least vs rs c kinds))
-unfolding costsFrom boundsFrom noneLarger
-cost-from w least vs rs c [] = tt
-cost-from w least vs rs c (kind ∷ kinds) = simp T-both (le→leb _ _ (cost-by w (least kind) vs rs c kind), cost-from w least vs rs (suc c) kinds)
+cost-by : (w : Network) (least : Kind → ℕ → ℕ → ℕ) (vs rs : List ℕ) (kind : Kind) (c : ℕ) → costBy kind w c rs ≤ boundBy kind w (least kind) vs rs c
+cost-by w least vs rs added c = omega arith
+cost-by w least vs rs worst c = omega arith
+cost-by w least vs rs closing c = omega arith
 
 pub cost-bound : (w : Network) (least : Kind → ℕ → ℕ → ℕ) (prefix : List ℕ) → T (noneLarger (costOf w prefix) (boundWith w least prefix))
 unfolding costOf
-cost-bound w least prefix = cost-from w least _ prefix 0 (w .kinds)
+cost-bound w least prefix = kinds-below (λ kind c. costBy kind w c prefix) _ (cost-by w least _ prefix) 0 (w .kinds)
 
 -- A larger measure of the missing nodes makes a larger bound.
 
@@ -50,12 +46,11 @@ larger-by w least more vs rs c h added = omega (arith, sum-larger (least c) (mor
 larger-by w least more vs rs c h worst = omega (arith, largest-larger (least c) (more c) vs h)
 larger-by w least more vs rs c h closing = omega (arith, sum-larger (least c) (more c) vs h)
 
-pub larger-from : (w : Network) (least more : Kind → ℕ → ℕ → ℕ) (vs rs : List ℕ) → ((kind : Kind) (c v : ℕ) → v ∈ vs → least kind c v ≤ more kind c v) → (c : ℕ) (kinds : List Kind)
-    → T (noneLarger (boundsFrom w least vs rs c kinds) (boundsFrom w more vs rs c kinds))
-unfolding boundsFrom noneLarger
-larger-from w least more vs rs h c [] = tt
-larger-from w least more vs rs h c (kind ∷ kinds) =
-    simp T-both (le→leb _ _ (larger-by w (least kind) (more kind) vs rs c (h kind c) kind), larger-from w least more vs rs h (suc c) kinds)
+pub larger-from : (w : Network) (least more : Kind → ℕ → ℕ → ℕ) (vs rs : List ℕ) → ((kind : Kind) (c v : ℕ) → v ∈ vs → least kind c v ≤ more kind c v)
+    → T (noneLarger (boundsOver w least vs rs) (boundsOver w more vs rs))
+larger-from w least more vs rs h =
+    kinds-below (λ kind c. boundBy kind w (least kind) vs rs c) (λ kind c. boundBy kind w (more kind) vs rs c)
+    (λ kind c. larger-by w (least kind) (more kind) vs rs c (h kind c) kind) 0 (w .kinds)
 
 -- Fewer rows, of which there is one, have a larger least cost.
 
@@ -83,7 +78,7 @@ leastOf-larger w kind c test fewer h r m t =
     let rows = filterB fewer (rowNumbers (graphOf w)) in
     let (q, i, e) = map-out (gainAt kind w c) rows (smallest-in (map (gainAt kind w c) rows) (map-in (gainAt kind w c) (filter-in fewer m t))) in
     let (j, u) = filter-out fewer (rowNumbers (graphOf w)) i in
-    omega (arith, e, leastOf-below w kind c test j (h q u))
+    omega (arith, e, least-below w (gainAt kind w c) test j (h q u))
 
 allowed-touches : (g : Graph) (entered : List ℕ) (k : Key) (v r : ℕ) → T (allowed g entered k v r) → T (touches g v r)
 allowed-touches g entered k v r t = ⊎-elim
@@ -92,7 +87,7 @@ allowed-touches g entered k v r t = ⊎-elim
     (T-either (both (eqb (secondEnd g r) v) (opens entered k (firstEnd g r) v)) (both (eqb (firstEnd g r) v) (opens entered k (secondEnd g r) v)) .0 t)
 
 pub lower-sharp : (w : Network) (prefix p : List ℕ) → p ∈ trees (graphOf w) → T (begins prefix p) → T (noneLarger (lowerBound w prefix) (sharpBound w prefix))
-lower-sharp w prefix p m t = larger-from w (leastAt w) (leastAllowed w (enteredBy g prefix) last) (missing g (enteredBy g prefix)) prefix larger 0 (w .kinds)
+lower-sharp w prefix p m t = larger-from w (leastAt w) (leastAllowed w (enteredBy g prefix) last) (missing g (enteredBy g prefix)) prefix larger
   where
     g : Graph
     g = graphOf w

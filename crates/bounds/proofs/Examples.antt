@@ -4,8 +4,8 @@ use mathlib.Core.List.{[], _∷_}
 use Rattle.lists.specs.Lists.{any, filterB, insert, largest, member, range, sequences, sort, sum}
 use Rattle.graph.specs.Paths.{ascending, isMinimal, keysLess, placeOf, stepOf, stepsFrom, trees}
 use Rattle.costs.specs.Network.{Network, added, closing, graphOf, «open», worst}
-use Rattle.costs.specs.Costs.{streetsOf}
-use Rattle.bounds.specs.Bounds.{begins, behindPrefix, boundsFrom, dropUntil, dropWhile, lowerBound, sharedBound, sharedFrom, sharpBound, smallest}
+use Rattle.costs.specs.Costs.{byKinds, streetsOf}
+use Rattle.bounds.specs.Bounds.{begins, behindPrefix, dropUntil, dropWhile, lowerBound, sharedBound, sharpBound, smallest}
 
 abbrev four : Network
 four = record {
@@ -30,5 +30,5 @@ Computed =
     (sharedBound four [] ≡ 6 ∷ 1 ∷ 3 ∷ [])
 
 computed : Computed
-unfolding Computed filterB insert sort range member sum largest sequences placeOf stepOf stepsFrom ascending isMinimal keysLess trees streetsOf dropUntil dropWhile begins smallest boundsFrom sharedFrom any
+unfolding Computed filterB insert sort range member sum largest sequences placeOf stepOf stepsFrom ascending isMinimal keysLess trees streetsOf dropUntil dropWhile begins smallest byKinds any
 computed = (refl, refl, refl, refl, refl, refl, refl)

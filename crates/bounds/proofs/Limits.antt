@@ -1,14 +1,13 @@
 -- The greatest cost of rows that cost at most b each: no rule of cost makes more of them than b for each row (`by-kind`, `costs-most`).
-use mathlib.Core.Path.{_≡_}
-use mathlib.Core.Logic.{⊎-elim}
-use mathlib.Core.List.{List, [], _∷_, List·Memᴰ·cases-cons as mem-cases, List·Memᴰ·not-nil as mem-nil}
-use Prim.Native.Nat.{_*_, _≤_, suc, ℕ}
+use mathlib.Core.List.{List, [], _∷_}
+use Prim.Native.Nat.{_*_, _≤_, ℕ}
 use native.Mathlib.Omega.{arith}
 use lib.ListN.{length}
 use Rattle.lists.specs.Lists.{largest, sum}
 use Rattle.lists.proofs.Members.{_∈_}
-use Rattle.costs.specs.Costs.{addedCost, costAt, costBy, costsFrom, worstCost}
+use Rattle.costs.specs.Costs.{addedCost, costAt, costBy, costOf, worstCost}
 use Rattle.costs.specs.Network.{Kind, Network, added, closing, worst}
+use Rattle.costs.proofs.Criteria.{kinds-each}
 use Rattle.bounds.proofs.Closing.{closing-most}
 
 module _ (w : Network) (b : ℕ) (most : (c r : ℕ) → costAt w c r ≤ b) where
@@ -27,8 +26,6 @@ module _ (w : Network) (b : ℕ) (most : (c r : ℕ) → costAt w c r ≤ b) whe
   by-kind worst c rows = worst-most c rows
   by-kind closing c rows = omega (arith, closing-most w c rows, added-most c rows)
 
-  pub costs-most : (c : ℕ) (kinds : List Kind) (rows : List ℕ) (x : ℕ) → x ∈ costsFrom w c kinds rows → x ≤ length rows * b
-  unfolding costsFrom
-  costs-most c [] rows x m = absurd (mem-nil m)
-  costs-most c (kind ∷ kinds) rows x m =
-      ⊎-elim (λ (e : x ≡ costBy kind w c rows). rw e (by-kind kind c rows)) (costs-most (suc c) kinds rows x) (mem-cases m)
+  pub costs-most : (rows : List ℕ) (x : ℕ) → x ∈ costOf w rows → x ≤ length rows * b
+  unfolding costOf
+  costs-most rows = kinds-each (λ kind c. costBy kind w c rows) (λ x. x ≤ length rows * b) (λ kind c. by-kind kind c rows) 0 (w .kinds)

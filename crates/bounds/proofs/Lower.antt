@@ -7,12 +7,12 @@ use mathlib.Core.Option.{some}
 use mathlib.Core.List.{List, [], _++_, _∷_, List·Memᴰ·head as here, Memᴰ·map as map-in, List·Memᴰ·not-nil as mem-nil, List·Memᴰ·tail as there}
 use Prim.Native.Nat.{_≤_, suc, zero, ℕ}
 use native.Mathlib.Omega.{arith}
-use lib.Dec.{T, le→leb}
+use lib.Dec.{T}
 use lib.ListN.{length}
 use Rattle.lists.specs.Lists.{member, range}
 use Rattle.lists.proofs.Distinct.{Distinct, filter-distinct}
 use Rattle.lists.proofs.Members.{_∈_, _⊆_, filter-in}
-use Rattle.lists.proofs.Tests.{T-both, T-either, eq→eqb}
+use Rattle.lists.proofs.Tests.{T-either, eq→eqb}
 use Rattle.graph.specs.Graph.{Graph, firstEnd, rowNumbers, secondEnd}
 use Rattle.graph.specs.Paths.{Key, isMinimal, steps, trees}
 use Rattle.graph.proofs.Growth.{Completion, Joins, back, forth, rowsOf, start}
@@ -20,10 +20,11 @@ use Rattle.graph.proofs.Minimal.{WellFormed, Whole, minimal-parts, whole-of}
 use Rattle.graph.proofs.Steps.{completion-steps, steps-rows}
 use Rattle.graph.proofs.Trees.{trees-mem}
 use Rattle.graph.proofs.Walk.{completion-part, stateAfter}
-use Rattle.costs.specs.Costs.{costBy, costOf, costsFrom, noneLarger}
+use Rattle.costs.specs.Costs.{costBy, costOf, noneLarger}
 use Rattle.costs.specs.Network.{Kind, Network, added, closing, graphOf, worst}
 use Rattle.costs.proofs.Networks.{network-formed}
-use Rattle.bounds.specs.Bounds.{begins, boundBy, boundWith, boundsFrom, enteredBy, gainAt, leastAt, leastOf, lowerBound, missing, nodesOf, smallest, touches}
+use Rattle.costs.proofs.Criteria.{kinds-below}
+use Rattle.bounds.specs.Bounds.{begins, boundBy, boundWith, boundsOver, enteredBy, gainAt, leastAt, leastBy, lowerBound, missing, nodesOf, smallest, touches}
 use Rattle.bounds.proofs.Closing.{closing-gains}
 use Rattle.bounds.proofs.Growing.{added-append, worst-append}
 use Rattle.bounds.proofs.Missing.{Pays, entered-is, missing-entered, missing-largest, missing-sum, step-legal}
@@ -60,28 +61,26 @@ branch-later {g} b = completion-part g (rowNumbers g) (start g) (b .done) (b .la
 
 module _ (w : Network) (least : Kind → ℕ → ℕ → ℕ) (vs rs : List ℕ) (ks : List Key) (d : Distinct vs) (s : vs ⊆ nodesOf ks) where
   -- by each kind
-  below-by : (c : ℕ) (kind : Kind) → Pays w kind c (least kind c) ks → boundBy kind w (least kind) vs rs c ≤ costBy kind w c (rs ++ rowsOf ks)
-  below-by c added h = omega (arith, missing-sum w added c (least added c) vs ks d s h, added-append w c rs (rowsOf ks))
-  below-by c worst h = omega (arith, missing-largest w worst c (least worst c) vs ks s h, worst-append w c rs (rowsOf ks))
-  below-by c closing h = omega (arith, missing-sum w closing c (least closing c) vs ks d s h, closing-gains w c rs (rowsOf ks))
+  below-by : (kind : Kind) (c : ℕ) → Pays (gainAt kind w c) (least kind c) ks → boundBy kind w (least kind) vs rs c ≤ costBy kind w c (rs ++ rowsOf ks)
+  below-by added c h = omega (arith, missing-sum (gainAt added w c) (least added c) vs ks d s h, added-append w c rs (rowsOf ks))
+  below-by worst c h = omega (arith, missing-largest (gainAt worst w c) (least worst c) vs ks s h, worst-append w c rs (rowsOf ks))
+  below-by closing c h = omega (arith, missing-sum (gainAt closing w c) (least closing c) vs ks d s h, closing-gains w c rs (rowsOf ks))
 
-  bounds-below : (h : (kind : Kind) (c : ℕ) → Pays w kind c (least kind c) ks) (c : ℕ) (kinds : List Kind)
-      → T (noneLarger (boundsFrom w least vs rs c kinds) (costsFrom w c kinds (rs ++ rowsOf ks)))
-  unfolding boundsFrom costsFrom noneLarger
-  bounds-below h c [] = tt
-  bounds-below h c (kind ∷ kinds) = simp T-both (le→leb _ _ (below-by c kind (h kind c)), bounds-below h (suc c) kinds)
+  bounds-below : ((kind : Kind) (c : ℕ) → Pays (gainAt kind w c) (least kind c) ks) → T (noneLarger (boundsOver w least vs rs) (costOf w (rs ++ rowsOf ks)))
+  unfolding costOf
+  bounds-below h =
+      kinds-below (λ kind c. boundBy kind w (least kind) vs rs c) (λ kind c. costBy kind w c (rs ++ rowsOf ks)) (λ kind c. below-by kind c (h kind c)) 0 (w .kinds)
 
 -- BOUND: by any measure that no later step is below
 pub bound-with : (w : Network) (least : Kind → ℕ → ℕ → ℕ) (prefix p : List ℕ) → WellFormed (graphOf w) → (b : Branched (graphOf w) prefix p)
-    → ((kind : Kind) (c : ℕ) → Pays w kind c (least kind c) (b .later)) → T (noneLarger (boundWith w least prefix) (costOf w p))
-unfolding costOf
+    → ((kind : Kind) (c : ℕ) → Pays (gainAt kind w c) (least kind c) (b .later)) → T (noneLarger (boundWith w least prefix) (costOf w p))
 bound-with w least prefix p wf b h =
     subst (λ (q : List ℕ). T (noneLarger (boundWith w least prefix) (costOf w q))) (sym (b .rows))
     (bounds-below w least (missing g (enteredBy g prefix)) prefix (b .later)
     (filter-distinct (λ v. not (member v (enteredBy g prefix))) (g .nodes) (wf .once))
     (subst (λ (l : List ℕ). missing g l ⊆ nodesOf (b .later)) (sym (entered-is g prefix (b .done) (b .made)))
     (missing-entered g (rowNumbers g) (stateAfter (start g) (b .done)) (b .later) (branch-later b)))
-    h 0 (w .kinds))
+    h)
   where
     g : Graph
     g = graphOf w
@@ -95,9 +94,8 @@ smallest-below (here {xs = y ∷ l} e) = omega arith
 smallest-below (there {xs = []} m) = absurd (mem-nil m)
 smallest-below (there {xs = y ∷ l} m) = omega (arith, smallest-below m)
 
-pub leastOf-below : (w : Network) (kind : Kind) (c : ℕ) (test : ℕ → Bool) {r : ℕ} → r ∈ rowNumbers (graphOf w) → T (test r)
-    → leastOf w kind c test ≤ gainAt kind w c r
-leastOf-below w kind c test m t = smallest-below (map-in (gainAt kind w c) (filter-in test m t))
+pub least-below : (w : Network) (measure : ℕ → ℕ) (test : ℕ → Bool) {r : ℕ} → r ∈ rowNumbers (graphOf w) → T (test r) → leastBy w measure test ≤ measure r
+least-below w measure test m t = smallest-below (map-in measure (filter-in test m t))
 
 pub touches-in : (g : Graph) {r u v : ℕ} → Joins g r u v → T (touches g v r)
 touches-in g {r} {u} {v} (forth a b) = simp T-either (inr (eq→eqb (secondEnd g r) v b))
@@ -120,4 +118,4 @@ lower-bound w prefix p m t =
     let b = branched (graphOf w) wf prefix p minimal t in
     bound-with w (leastAt w) prefix p wf b (λ kind c k i.
     let (s, h, old) = step-legal (graphOf w) (rowNumbers (graphOf w)) (stateAfter (start (graphOf w)) (b .done)) (b .later) (branch-later b) i in
-    leastOf-below w kind c (touches (graphOf w) (k .node)) (h .usable) (touches-in (graphOf w) (h .step .joined)))
+    least-below w (gainAt kind w c) (touches (graphOf w) (k .node)) (h .usable) (touches-in (graphOf w) (h .step .joined)))

@@ -19,8 +19,7 @@ use Rattle.graph.specs.Paths.{Key, steps}
 use Rattle.graph.proofs.Growth.{Completion, Legal, State, after, rowsOf, start}
 use Rattle.graph.proofs.Unique.{rows-distinct}
 use Rattle.graph.proofs.Walk.{stateAfter}
-use Rattle.costs.specs.Network.{Kind, Network}
-use Rattle.bounds.specs.Bounds.{enteredBy, gainAt, keysOr, missing, nodesOf}
+use Rattle.bounds.specs.Bounds.{enteredBy, keysOr, missing, nodesOf}
 
 -- The state after a prefix
 
@@ -93,23 +92,23 @@ module _ (g : Graph) (rs : List ℕ) (s : State) (ks : List Key) (c : Completion
 
 -- What they cost
 
--- b is at most what the row that enters the node adds
-abbrev pub Pays : Network → Kind → ℕ → (ℕ → ℕ) → List Key → Type 0
-Pays w kind c b ks = (k : Key) → k ∈ ks → b (k .node) ≤ gainAt kind w c (k .row)
+-- b is at most what f gives to the row that enters the node
+abbrev pub Pays : (ℕ → ℕ) → (ℕ → ℕ) → List Key → Type 0
+Pays f b ks = (k : Key) → k ∈ ks → b (k .node) ≤ f (k .row)
 
-module _ (w : Network) (kind : Kind) (c : ℕ) (b : ℕ → ℕ) where
-  pays-sum : (ks : List Key) → Pays w kind c b ks → sum (map b (nodesOf ks)) ≤ sum (map (gainAt kind w c) (rowsOf ks))
+module _ (f b : ℕ → ℕ) where
+  pays-sum : (ks : List Key) → Pays f b ks → sum (map b (nodesOf ks)) ≤ sum (map f (rowsOf ks))
   unfolding sum
   pays-sum [] h = omega arith
   pays-sum (k ∷ ks) h = omega (arith, h k (here refl), pays-sum ks (λ l m. h l (there m)))
 
-  pays-largest : (ks : List Key) → Pays w kind c b ks → largest (map b (nodesOf ks)) ≤ largest (map (gainAt kind w c) (rowsOf ks))
+  pays-largest : (ks : List Key) → Pays f b ks → largest (map b (nodesOf ks)) ≤ largest (map f (rowsOf ks))
   unfolding largest
   pays-largest [] h = omega arith
   pays-largest (k ∷ ks) h = omega (arith, h k (here refl), pays-largest ks (λ l m. h l (there m)))
 
-  pub missing-sum : (vs : List ℕ) (ks : List Key) → Distinct vs → vs ⊆ nodesOf ks → Pays w kind c b ks → sum (map b vs) ≤ sum (map (gainAt kind w c) (rowsOf ks))
+  pub missing-sum : (vs : List ℕ) (ks : List Key) → Distinct vs → vs ⊆ nodesOf ks → Pays f b ks → sum (map b vs) ≤ sum (map f (rowsOf ks))
   missing-sum vs ks d s h = omega (arith, sum-within b vs d s, pays-sum ks h)
 
-  pub missing-largest : (vs : List ℕ) (ks : List Key) → vs ⊆ nodesOf ks → Pays w kind c b ks → largest (map b vs) ≤ largest (map (gainAt kind w c) (rowsOf ks))
+  pub missing-largest : (vs : List ℕ) (ks : List Key) → vs ⊆ nodesOf ks → Pays f b ks → largest (map b vs) ≤ largest (map f (rowsOf ks))
   missing-largest vs ks s h = omega (arith, largest-within b vs s, pays-largest ks h)

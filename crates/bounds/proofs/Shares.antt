@@ -7,27 +7,28 @@ use mathlib.Core.List.{List, [], _++_, _∷_, Memᴰ·append-left as append-left
 use Prim.Native.Nat.{_*_, _+_, _-_, _/_, _≤_, suc, zero, ℕ}
 use native.Mathlib.Nat.{div-le-self, div-one, div-zero, le-div-iff-mul-le, mul-div-le, mul-le-mul-right}
 use native.Mathlib.Omega.{arith}
-use lib.Dec.{T, eqb, eqb→eq, le→leb, not-T}
+use lib.Dec.{T, eqb, eqb→eq, not-T}
 use lib.ListN.{length, length-map}
 use Rattle.lists.specs.Lists.{any, filterB, largest, member, pick, sum}
 use Rattle.lists.proofs.Distinct.{Distinct, filter-distinct, pigeonhole}
 use Rattle.lists.proofs.Maps.{map-filter}
 use Rattle.lists.proofs.Members.{_∈_, _⊆_, any-in, cons-⊆, filter-in, filter-keep, filter-length, filter-out, filter-skip, member-out, nil-⊆, snoc-out}
 use Rattle.lists.proofs.Sums.{largest-in, sum-larger, sum-within}
-use Rattle.lists.proofs.Tests.{T-both, decide, pick-elim}
+use Rattle.lists.proofs.Tests.{decide, pick-elim}
 use Rattle.graph.specs.Graph.{Graph, rowNumbers}
 use Rattle.graph.specs.Paths.{Key, isMinimal, steps, trees}
 use Rattle.graph.proofs.Growth.{Completion, State, rowsOf, start}
 use Rattle.graph.proofs.Minimal.{WellFormed}
 use Rattle.graph.proofs.Trees.{trees-mem}
 use Rattle.graph.proofs.Walk.{stateAfter}
-use Rattle.costs.specs.Costs.{closingCost, costAt, costBy, costOf, costsFrom, inStreet, noneLarger, streetCost, streetsOf}
+use Rattle.costs.specs.Costs.{closingCost, costAt, costBy, costOf, inStreet, noneLarger, streetCost, streetsOf}
 use Rattle.costs.specs.Network.{Kind, Network, added, closing, graphOf, worst}
-use Rattle.bounds.specs.Bounds.{allowed, begins, enteredBy, excessAt, gainAt, keysOr, lastKey, leastBy, leastOf, missing, noKey, nodesOf, shareAt, sharedBound, sharedBy, sharedFrom, sharersOf}
+use Rattle.costs.proofs.Criteria.{kinds-below, kinds-length}
+use Rattle.bounds.specs.Bounds.{allowed, begins, enteredBy, excessAt, gainAt, keysOr, lastKey, leastBy, leastOf, missing, noKey, nodesOf, shareAt, sharedBound, sharedBy, sharedOver, sharersOf}
 use Rattle.bounds.proofs.Closing.{closing-gains, gain, gains-append, inOne, named-within, namedCost, off-gains, parts-sum, street-within, streetOf, streets-named, streets-within}
 use Rattle.bounds.proofs.Growing.{added-append, worst-append}
-use Rattle.bounds.proofs.Lower.{Branched, branch-later, branched, smallest-below, tree-formed}
-use Rattle.bounds.proofs.Missing.{entered-is, missing-entered, missing-largest, missing-sum, nodes-distinct, nodes-fresh, rows-map, step-legal}
+use Rattle.bounds.proofs.Lower.{Branched, branch-later, branched, least-below, tree-formed}
+use Rattle.bounds.proofs.Missing.{Pays, entered-is, missing-entered, missing-largest, missing-sum, nodes-distinct, nodes-fresh, rows-map, step-legal}
 use Rattle.bounds.proofs.Sharp.{later-allowed}
 use Rattle.bounds.proofs.Skip.{Under}
 
@@ -172,20 +173,14 @@ module _ (w : Network) (test : ℕ → ℕ → Bool) (vs : List ℕ) (ks : List 
 
 module _ (w : Network) (test : ℕ → ℕ → Bool) (vs rs : List ℕ) (ks : List Key) (d : Distinct vs) (once : Distinct (nodesOf ks)) (s : vs ⊆ nodesOf ks)
     (known : nodesOf ks ⊆ vs) (passes : (k : Key) → k ∈ ks → (k .row ∈ rowNumbers (graphOf w)) × T (test (k .node) (k .row))) where
-  least-below : (measure : ℕ → ℕ) (k : Key) → k ∈ ks → leastBy w measure (test (k .node)) ≤ measure (k .row)
-  least-below measure k m = let (row, good) = passes k m in smallest-below (map-in measure (filter-in (test (k .node)) row good))
-
-  nodes-sum : (measure : ℕ → ℕ) (l : List Key) → l ⊆ ks → sum (map (λ v. leastBy w measure (test v)) (nodesOf l)) ≤ sum (map measure (rowsOf l))
-  unfolding sum
-  nodes-sum measure [] i = omega arith
-  nodes-sum measure (k ∷ l) i = omega (arith, least-below measure k (i k (here refl)), nodes-sum measure l (λ j m. i j (there m)))
+  least-pays : (measure : ℕ → ℕ) → Pays measure (λ v. leastBy w measure (test v)) ks
+  least-pays measure k m = let (row, good) = passes k m in least-below w measure (test (k .node)) row good
 
   shared-sum : (c : ℕ) → closingCost w c rs + sum (map (λ v. leastBy w (shareAt w c rs (sharersOf w test vs)) (test v)) vs) ≤ closingCost w c (rs ++ rowsOf ks)
   shared-sum c =
       omega (
         arith,
-        sum-within (λ v. leastBy w (shareAt w c rs (sharersOf w test vs)) (test v)) vs d s,
-        nodes-sum (shareAt w c rs (sharersOf w test vs)) ks (λ k m. m),
+        missing-sum (shareAt w c rs (sharersOf w test vs)) (λ v. leastBy w (shareAt w c rs (sharersOf w test vs)) (test v)) vs ks d s (least-pays (shareAt w c rs (sharersOf w test vs))),
         closing-shares w c rs (rowsOf ks) (sharersOf w test vs) (sharers-few w test vs ks once known passes),
       )
 
@@ -197,21 +192,22 @@ module _ (w : Network) (test : ℕ → ℕ → Bool) (vs rs : List ℕ) (ks : Li
       let mine : k .row ∈ rowsOf ks = subst (λ (m : List ℕ). k .row ∈ m) (sym (rows-map ks)) (map-in (λ k. k .row) j) in
       omega (
         arith,
-        subst (λ (u : ℕ). leastBy w (excessAt w c rs) (test u) ≤ excessAt w c rs (k .row)) e (least-below (excessAt w c rs) k j),
+        subst (λ (u : ℕ). leastBy w (excessAt w c rs) (test u) ≤ excessAt w c rs (k .row)) e (least-pays (excessAt w c rs) k j),
         closing-excess w c rs (rowsOf ks) (k .row) mine,
         shared-largest c l (λ u m. i u (there m)),
       )
 
   -- by each kind
-  shared-by : (c : ℕ) (kind : Kind) → sharedBy kind w test vs rs c ≤ costBy kind w c (rs ++ rowsOf ks)
-  shared-by c added = omega (arith, missing-sum w added c (λ v. leastOf w added c (test v)) vs ks d s (λ k m. least-below (gainAt added w c) k m), added-append w c rs (rowsOf ks))
-  shared-by c worst = omega (arith, missing-largest w worst c (λ v. leastOf w worst c (test v)) vs ks s (λ k m. least-below (gainAt worst w c) k m), worst-append w c rs (rowsOf ks))
-  shared-by c closing = omega (arith, shared-sum c, shared-largest c vs s)
+  shared-by : (kind : Kind) (c : ℕ) → sharedBy kind w test vs rs c ≤ costBy kind w c (rs ++ rowsOf ks)
+  shared-by added c =
+      omega (arith, missing-sum (gainAt added w c) (λ v. leastOf w added c (test v)) vs ks d s (least-pays (gainAt added w c)), added-append w c rs (rowsOf ks))
+  shared-by worst c =
+      omega (arith, missing-largest (gainAt worst w c) (λ v. leastOf w worst c (test v)) vs ks s (least-pays (gainAt worst w c)), worst-append w c rs (rowsOf ks))
+  shared-by closing c = omega (arith, shared-sum c, shared-largest c vs s)
 
-  pub shared-below : (c : ℕ) (kinds : List Kind) → T (noneLarger (sharedFrom w test vs rs c kinds) (costsFrom w c kinds (rs ++ rowsOf ks)))
-  unfolding sharedFrom costsFrom noneLarger
-  shared-below c [] = tt
-  shared-below c (kind ∷ kinds) = simp T-both (le→leb _ _ (shared-by c kind), shared-below (suc c) kinds)
+  pub shared-below : T (noneLarger (sharedOver w test vs rs) (costOf w (rs ++ rowsOf ks)))
+  unfolding costOf
+  shared-below = kinds-below (λ kind c. sharedBy kind w test vs rs c) (λ kind c. costBy kind w c (rs ++ rowsOf ks)) shared-by 0 (w .kinds)
 
 -- what a completion enters was missing
 entered-missing : (g : Graph) (s : State) (ks : List Key) → Completion g (rowNumbers g) s ks → nodesOf ks ⊆ missing g (s .entered)
@@ -223,10 +219,9 @@ entered-missing g s ks c v m =
 
 -- SHARED BOUND: no tree of the branch is below it in any criterion
 pub shared-bound : (w : Network) (prefix p : List ℕ) → p ∈ trees (graphOf w) → T (begins prefix p) → T (noneLarger (sharedBound w prefix) (costOf w p))
-unfolding costOf
 shared-bound w prefix p m t =
     subst (λ (q : List ℕ). T (noneLarger (sharedBound w prefix) (costOf w q))) (sym (b .rows))
-    (subst (λ (l : List ℕ). T (noneLarger (sharedFrom w (allowed g l last) (missing g l) prefix 0 (w .kinds)) (costsFrom w 0 (w .kinds) (prefix ++ rowsOf (b .later)))))
+    (subst (λ (l : List ℕ). T (noneLarger (sharedOver w (allowed g l last) (missing g l) prefix) (costOf w (prefix ++ rowsOf (b .later)))))
     (sym same)
     (shared-below w (allowed g (s .entered) last) (missing g (s .entered)) prefix (b .later)
     (filter-distinct (λ v. not (member v (s .entered))) (g .nodes) (wf .once))
@@ -236,8 +231,7 @@ shared-bound w prefix p m t =
     (λ k i. (
       step-legal g (rowNumbers g) s (b .later) (branch-later b) i .1 .usable,
       rw (b .made) (later-allowed g (b .done) (b .later) k (branch-later b) i),
-    ))
-    0 (w .kinds)))
+    ))))
   where
     g : Graph
     g = graphOf w
@@ -260,10 +254,5 @@ shared-bound w prefix p m t =
     same : enteredBy g prefix ≡ s .entered
     same = entered-is g prefix (b .done) (b .made)
 
-shared-length : (w : Network) (test : ℕ → ℕ → Bool) (vs rs : List ℕ) (c : ℕ) (kinds : List Kind) → length (sharedFrom w test vs rs c kinds) ≡ length kinds
-unfolding sharedFrom
-shared-length w test vs rs c [] = refl
-shared-length w test vs rs c (kind ∷ kinds) = ap suc (shared-length w test vs rs (suc c) kinds)
-
 pub under-shared : (w : Network) (prefix : List ℕ) → Under w prefix (sharedBound w prefix)
-under-shared w prefix = record { long = shared-length w _ _ prefix 0 (w .kinds); below-all = shared-bound w prefix }
+under-shared w prefix = record { long = kinds-length _ 0 (w .kinds); below-all = shared-bound w prefix }

@@ -19,8 +19,8 @@ use Rattle.graph.proofs.Unique.{later-step}
 use Rattle.graph.proofs.Walk.{stateAfter}
 use Rattle.costs.specs.Costs.{costOf, noneLarger}
 use Rattle.costs.specs.Network.{Network, graphOf}
-use Rattle.bounds.specs.Bounds.{allowed, begins, enteredBy, keysOr, lastKey, leastAllowed, noKey, opens, sharpBound}
-use Rattle.bounds.proofs.Lower.{bound-with, branch-later, branched, leastOf-below, tree-formed}
+use Rattle.bounds.specs.Bounds.{allowed, begins, enteredBy, gainAt, keysOr, lastKey, leastAllowed, noKey, opens, sharpBound}
+use Rattle.bounds.proofs.Lower.{bound-with, branch-later, branched, least-below, tree-formed}
 use Rattle.bounds.proofs.Missing.{entered-is, rows-map, step-legal}
 
 -- the state's place and node are those of the last step
@@ -68,6 +68,6 @@ sharp-bound w prefix p m t =
     let wf = tree-formed w p minimal in
     let b = branched (graphOf w) wf prefix p minimal t in
     bound-with w (leastAllowed w (enteredBy (graphOf w) prefix) (lastKey noKey (keysOr (steps (graphOf w) prefix)))) prefix p wf b
-    (λ kind c k i. leastOf-below w kind c (allowed (graphOf w) (enteredBy (graphOf w) prefix) (lastKey noKey (keysOr (steps (graphOf w) prefix))) (k .node))
+    (λ kind c k i. least-below w (gainAt kind w c) (allowed (graphOf w) (enteredBy (graphOf w) prefix) (lastKey noKey (keysOr (steps (graphOf w) prefix))) (k .node))
     (step-legal (graphOf w) (rowNumbers (graphOf w)) (stateAfter (start (graphOf w)) (b .done)) (b .later) (branch-later b) i .1 .usable)
     (rw (entered-is (graphOf w) prefix (b .done) (b .made), b .made) (later-allowed (graphOf w) (b .done) (b .later) k (branch-later b) i)))

@@ -4,7 +4,7 @@ use mathlib.Core.Path.{_∙_, _≡_, ap, refl, subst, sym}
 use mathlib.Core.Logic.{⊎-elim}
 use mathlib.Core.Option.{Option, Option·none-ne-some, Option·some-injective, none, some}
 use mathlib.Core.List.{List, [], _++_, _∷_, append-assoc, append-cancel-right, append-nil, Memᴰ·append-right as append-right, List·Memᴰ·head as here, List·Memᴰ·tail as there}
-use Prim.Native.Nat.{suc, ℕ}
+use Prim.Native.Nat.{ℕ}
 use lib.Dec.{T}
 use lib.ListN.{getElem?, length, take}
 use lib.Seq.{append-snoc}
@@ -21,10 +21,11 @@ use Rattle.costs.proofs.Fronts.{Sized}
 use Rattle.costs.proofs.Layouts.{layouts-part}
 use Rattle.costs.proofs.Networks.{vectors-sized}
 use Rattle.costs.proofs.Vectors.{dominates-less, noneLarger-cases, noneLarger-trans, vector-order}
+use Rattle.costs.proofs.Criteria.{kinds-length}
 use Rattle.tables.specs.Tables.{Table, below, enterBounded, walk}
 use Rattle.tables.proofs.Pass.{skip-one}
 use Rattle.tables.proofs.Witness.{Walked, walked-walk}
-use Rattle.bounds.specs.Bounds.{beforePrefix, begins, behindPrefix, boundWith, boundsFrom, branch, leastAt, lowerBound, sharpBound}
+use Rattle.bounds.specs.Bounds.{beforePrefix, begins, behindPrefix, boundWith, branch, leastAt, lowerBound, sharpBound}
 use Rattle.bounds.proofs.Growing.{costs-grow}
 use Rattle.bounds.proofs.Lower.{lower-bound}
 use Rattle.bounds.proofs.Prefix.{AfterIn, NoneAfterIn, after-in, begins-take, from-branch, none-after-in, prefix-parts}
@@ -38,13 +39,8 @@ pub through-behind : {g : Graph} {L : List (List ℕ)} → Part g L → (prefix 
 through-behind {g} {L} part prefix = append-assoc (beforePrefix L prefix) (branch L prefix) (behindPrefix L prefix) ∙ prefix-parts part prefix
 
 -- bounds have a part for each criterion
-bounds-length : (w : Network) (least : Kind → ℕ → ℕ → ℕ) (vs rs : List ℕ) (c : ℕ) (kinds : List Kind) → length (boundsFrom w least vs rs c kinds) ≡ length kinds
-unfolding boundsFrom
-bounds-length w least vs rs c [] = refl
-bounds-length w least vs rs c (kind ∷ kinds) = ap suc (bounds-length w least vs rs (suc c) kinds)
-
 pub bound-length : (w : Network) (least : Kind → ℕ → ℕ → ℕ) (prefix : List ℕ) → length (boundWith w least prefix) ≡ length (w .kinds)
-bound-length w least prefix = bounds-length w least _ prefix 0 (w .kinds)
+bound-length w least prefix = kinds-length _ 0 (w .kinds)
 
 pub cost-length : (w : Network) (p : List ℕ) → length (costOf w p) ≡ length (w .kinds)
 cost-length w p = vectors-sized w (p ∷ []) (costOf w p) (here refl)

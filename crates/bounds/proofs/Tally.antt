@@ -6,26 +6,26 @@ use mathlib.Core.Logic.{_⊎_, inl, inr, ⊎-elim}
 use mathlib.Core.Bool.{Bool, not}
 use mathlib.Core.Option.{some}
 use mathlib.Core.List.{List, [], _++_, _∷_, append-nil, List·Memᴰ·head as here, map, map-append, List·Memᴰ·cases-cons as mem-cases, Memᴰ·cast as mem-cast, List·Memᴰ·not-nil as mem-nil, List·Memᴰ·tail as there}
-use Prim.Native.Nat.{_+_, _≤_, max, suc, ℕ}
+use Prim.Native.Nat.{_+_, _≤_, max, ℕ}
 use native.Mathlib.Decide.{ℕ-discrete}
 use native.Mathlib.Omega.{arith}
-use lib.Dec.{T, T-not, le→leb, not-T}
+use lib.Dec.{T, T-not, not-T}
 use lib.Seq.{append-snoc}
 use Rattle.lists.specs.Lists.{filterB, largest, member, sum}
 use Rattle.lists.proofs.Distinct.{Distinct, mem?, range-distinct}
 use Rattle.lists.proofs.Members.{_∈_, filter-keep, filter-skip, member-in, member-out, not-snoc, snoc-new, snoc-old}
 use Rattle.lists.proofs.Sums.{largest-append, sum-append}
-use Rattle.lists.proofs.Tests.{T-both}
 use Rattle.graph.specs.Graph.{Graph, rowNumbers}
 use Rattle.graph.specs.Paths.{Key, stepOf, steps, stepsFrom}
 use Rattle.graph.proofs.Growth.{Joins, Step}
 use Rattle.graph.proofs.Steps.{stepOf-out, stepsFrom-cons, stepsFrom-nil}
 use Rattle.costs.specs.Costs.{noneLarger}
 use Rattle.costs.specs.Network.{Kind, Network, added, closing, graphOf, worst}
-use Rattle.bounds.specs.Bounds.{boundBy, boundsFrom, enteredBy, gainAt, leastAt, lowerBound, missing, nodesOf, touches}
+use Rattle.costs.proofs.Criteria.{kinds-below}
+use Rattle.bounds.specs.Bounds.{boundBy, boundsOver, enteredBy, gainAt, leastAt, lowerBound, missing, nodesOf, touches}
 use Rattle.bounds.proofs.Closing.{closing-gains}
 use Rattle.bounds.proofs.Growing.{added-append, worst-append}
-use Rattle.bounds.proofs.Lower.{leastOf-below, touches-in}
+use Rattle.bounds.proofs.Lower.{least-below, touches-in}
 use Rattle.bounds.proofs.Prefix.{steps-cons}
 
 -- The steps of a longer prefix
@@ -139,10 +139,12 @@ module _ (g : Graph) (X : List ℕ) (v : ℕ) (once : Distinct (g .nodes)) (m : 
 pub lower-longer : (w : Network) (prefix : List ℕ) (js : List Key) (r : ℕ) (k : Key) → steps (graphOf w) prefix ≡ some js
     → stepOf (graphOf w) (enteredBy (graphOf w) prefix) r ≡ some k → r ∈ rowNumbers (graphOf w)
     → T (noneLarger (lowerBound w prefix) (lowerBound w (prefix ++ (r ∷ []))))
-unfolding boundsFrom noneLarger sum largest
+unfolding sum largest
 lower-longer w prefix js r k e f known =
-    subst (λ (l : List ℕ). T (noneLarger (lowerBound w prefix) (boundsFrom w (leastAt w) (missing g l) (prefix ++ (r ∷ [])) 0 (w .kinds))))
-    (sym (entered-step g prefix js r k e f .1)) (from 0 (w .kinds))
+    subst (λ (l : List ℕ). T (noneLarger (lowerBound w prefix) (boundsOver w (leastAt w) (missing g l) (prefix ++ (r ∷ [])))))
+    (sym (entered-step g prefix js r k e f .1))
+    (kinds-below (λ kind c. boundBy kind w (leastAt w kind) (missing g X) prefix c)
+    (λ kind c. boundBy kind w (leastAt w kind) (missing g (X ++ (k .node ∷ []))) (prefix ++ (r ∷ [])) c) from-by 0 (w .kinds))
   where
     g : Graph
     g = graphOf w
@@ -158,7 +160,7 @@ lower-longer w prefix js r k e f known =
 
     paid : (kind : Kind) (c : ℕ) → leastAt w kind c (k .node) ≤ gainAt kind w c r
     paid kind c =
-        leastOf-below w kind c (touches g (k .node)) known (touches-in g (subst (λ (q : ℕ). Joins g q (made .0 .pivot) (k .node)) (made .1) (made .0 .joined)))
+        least-below w (gainAt kind w c) (touches g (k .node)) known (touches-in g (subst (λ (q : ℕ). Joins g q (made .0 .pivot) (k .node)) (made .1) (made .0 .joined)))
 
     all : (kind : Kind) (c : ℕ)
         → sum (map (leastAt w kind c) (missing g X)) ≡ leastAt w kind c (k .node) + sum (map (leastAt w kind c) (missing g (X ++ (k .node ∷ []))))
@@ -168,13 +170,8 @@ lower-longer w prefix js r k e f known =
         ≡ max (leastAt w worst c (k .node)) (largest (map (leastAt w worst c) (missing g (X ++ (k .node ∷ [])))))
     top c = largest-step g X (k .node) once (made .0 .enters) (made .0 .fresh) (leastAt w worst c)
 
-    from-by : (c : ℕ) (kind : Kind)
+    from-by : (kind : Kind) (c : ℕ)
         → boundBy kind w (leastAt w kind) (missing g X) prefix c ≤ boundBy kind w (leastAt w kind) (missing g (X ++ (k .node ∷ []))) (prefix ++ (r ∷ [])) c
-    from-by c added = omega (arith, paid added c, all added c, added-append w c prefix (r ∷ []))
-    from-by c worst = omega (arith, paid worst c, top c, worst-append w c prefix (r ∷ []))
-    from-by c closing = omega (arith, paid closing c, all closing c, closing-gains w c prefix (r ∷ []))
-
-    from : (c : ℕ) (kinds : List Kind)
-        → T (noneLarger (boundsFrom w (leastAt w) (missing g X) prefix c kinds) (boundsFrom w (leastAt w) (missing g (X ++ (k .node ∷ []))) (prefix ++ (r ∷ [])) c kinds))
-    from c [] = tt
-    from c (kind ∷ kinds) = simp T-both (le→leb _ _ (from-by c kind), from (suc c) kinds)
+    from-by added c = omega (arith, paid added c, all added c, added-append w c prefix (r ∷ []))
+    from-by worst c = omega (arith, paid worst c, top c, worst-append w c prefix (r ∷ []))
+    from-by closing c = omega (arith, paid closing c, all closing c, closing-gains w c prefix (r ∷ []))

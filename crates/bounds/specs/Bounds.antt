@@ -3,13 +3,13 @@
 use mathlib.Core.Bool.{Bool, false, not, true}
 use mathlib.Core.Option.{Option, none, some}
 use mathlib.Core.List.{List, [], _∷_, map}
-use Prim.Native.Nat.{_+_, _-_, _/_, max, min, suc, ℕ}
+use Prim.Native.Nat.{_+_, _-_, _/_, max, min, ℕ}
 use lib.Dec.{eqb}
 use lib.ListN.{length}
 use Rattle.lists.specs.Lists.{any, both, either, filterB, largest, member, pick, sum}
 use Rattle.graph.specs.Graph.{Graph, firstEnd, rowNumbers, secondEnd}
 use Rattle.graph.specs.Paths.{Key, follows, placeOf, steps}
-use Rattle.costs.specs.Costs.{addedCost, closingCost, costAt, inStreet, streetCost, worstCost}
+use Rattle.costs.specs.Costs.{addedCost, byKinds, closingCost, costAt, inStreet, streetCost, worstCost}
 use Rattle.costs.specs.Network.{Kind, Network, added, closing, graphOf, rowAt, worst}
 
 -- Branches
@@ -75,9 +75,13 @@ gainAt added w c r = costAt w c r
 gainAt worst w c r = costAt w c r
 gainAt closing w c r = pick (eqb (rowAt w r .street) 0) (costAt w c r) 0
 
--- the least that one of the network's rows that pass a test adds in criterion c
+-- the least that a measure gives to one of the network's rows that pass a test; 0 if there is none
+abbrev pub leastBy : Network → (ℕ → ℕ) → (ℕ → Bool) → ℕ
+leastBy w measure test = smallest (map measure (filterB test (rowNumbers (graphOf w))))
+
+-- the least that one of them adds in criterion c
 abbrev pub leastOf : Network → Kind → ℕ → (ℕ → Bool) → ℕ
-leastOf w kind c test = smallest (map (gainAt kind w c) (filterB test (rowNumbers (graphOf w))))
+leastOf w kind c test = leastBy w (gainAt kind w c) test
 
 -- row r has v as an end
 abbrev pub touches : Graph → ℕ → ℕ → Bool
@@ -93,12 +97,11 @@ boundBy added w least vs rs c = addedCost w c rs + sum (map (least c) vs)
 boundBy worst w least vs rs c = max (worstCost w c rs) (largest (map (least c) vs))
 boundBy closing w least vs rs c = closingCost w c rs + sum (map (least c) vs)
 
-unfoldable pub boundsFrom : Network → (Kind → ℕ → ℕ → ℕ) → List ℕ → List ℕ → ℕ → List Kind → List ℕ
-boundsFrom w least vs rs c [] = []
-boundsFrom w least vs rs c (kind ∷ kinds) = boundBy kind w (least kind) vs rs c ∷ boundsFrom w least vs rs (suc c) kinds
+abbrev pub boundsOver : Network → (Kind → ℕ → ℕ → ℕ) → List ℕ → List ℕ → List ℕ
+boundsOver w least vs rs = byKinds (λ kind c. boundBy kind w (least kind) vs rs c) 0 (w .kinds)
 
 abbrev pub boundWith : Network → (Kind → ℕ → ℕ → ℕ) → List ℕ → List ℕ
-boundWith w least prefix = boundsFrom w least (missing (graphOf w) (enteredBy (graphOf w) prefix)) prefix 0 (w .kinds)
+boundWith w least prefix = boundsOver w least (missing (graphOf w) (enteredBy (graphOf w) prefix)) prefix
 
 -- No tree that begins with the prefix costs less, in any criterion.
 abbrev pub lowerBound : Network → List ℕ → List ℕ
@@ -143,10 +146,6 @@ shareAt w c rs sharers r = pick (eqb (rowAt w r .street) 0) (costAt w c r) ((cos
 abbrev pub sharersOf : Network → (ℕ → ℕ → Bool) → List ℕ → ℕ → ℕ
 sharersOf w test vs s = length (filterB (λ v. any (test v) (inStreet w s (rowNumbers (graphOf w)))) vs)
 
--- the least that a measure gives to a row that may enter v
-abbrev pub leastBy : Network → (ℕ → ℕ) → (ℕ → Bool) → ℕ
-leastBy w measure test = smallest (map measure (filterB test (rowNumbers (graphOf w))))
-
 -- the closing cost of the rows rs, and the larger of: each node's least share, added up; the largest of the nodes' least excesses
 abbrev pub sharedClosing : Network → (ℕ → ℕ → Bool) → List ℕ → List ℕ → ℕ → ℕ
 sharedClosing w test vs rs c = closingCost w c rs + max
@@ -158,13 +157,12 @@ sharedBy added w test vs rs c = boundBy added w (λ c v. leastOf w added c (test
 sharedBy worst w test vs rs c = boundBy worst w (λ c v. leastOf w worst c (test v)) vs rs c
 sharedBy closing w test vs rs c = sharedClosing w test vs rs c
 
-unfoldable pub sharedFrom : Network → (ℕ → ℕ → Bool) → List ℕ → List ℕ → ℕ → List Kind → List ℕ
-sharedFrom w test vs rs c [] = []
-sharedFrom w test vs rs c (kind ∷ kinds) = sharedBy kind w test vs rs c ∷ sharedFrom w test vs rs (suc c) kinds
+abbrev pub sharedOver : Network → (ℕ → ℕ → Bool) → List ℕ → List ℕ → List ℕ
+sharedOver w test vs rs = byKinds (λ kind c. sharedBy kind w test vs rs c) 0 (w .kinds)
 
 -- the bound with the rows that may still come, as `sharpBound` has it
 abbrev pub sharedBound : Network → List ℕ → List ℕ
 sharedBound w prefix =
     let entered = enteredBy (graphOf w) prefix in
     let last = lastKey noKey (keysOr (steps (graphOf w) prefix)) in
-    sharedFrom w (allowed (graphOf w) entered last) (missing (graphOf w) entered) prefix 0 (w .kinds)
+    sharedOver w (allowed (graphOf w) entered last) (missing (graphOf w) entered) prefix

@@ -1,15 +1,16 @@
 -- The graph of a network is well formed (`network-formed`), and all its cost vectors have as many parts as there are criteria (`vectors-sized`).
-use mathlib.Core.Path.{_∙_, _≡_, ap, refl, sym}
-use mathlib.Core.List.{List, [], _∷_, map, Memᴰ·of-map as map-out}
-use Prim.Native.Nat.{_<_, suc, ℕ}
+use mathlib.Core.Path.{_∙_, ap, sym}
+use mathlib.Core.List.{List, map, Memᴰ·of-map as map-out}
+use Prim.Native.Nat.{_<_, ℕ}
 use native.Mathlib.Omega.{arith}
 use lib.ListN.{length}
 use Rattle.lists.proofs.Distinct.{range-distinct}
 use Rattle.lists.proofs.Members.{range-in, range-out}
 use Rattle.graph.proofs.Minimal.{WellFormed}
-use Rattle.costs.specs.Costs.{costOf, costsFrom}
-use Rattle.costs.specs.Network.{Kind, Network, graphOf}
+use Rattle.costs.specs.Costs.{costBy, costOf}
+use Rattle.costs.specs.Network.{Network, graphOf}
 use Rattle.costs.proofs.Fronts.{Sized}
+use Rattle.costs.proofs.Criteria.{kinds-length}
 
 pub network-formed : (w : Network) → 0 < w .nodeCount → WellFormed (graphOf w)
 network-formed w h = record {
@@ -18,11 +19,6 @@ network-formed w h = record {
   noZero = λ i. let b = range-out 1 (w .nodeCount) i .0 in omega arith;
 }
 
-costs-length : (g : Network) (c : ℕ) (kinds : List Kind) (rs : List ℕ) → length (costsFrom g c kinds rs) ≡ length kinds
-unfolding costsFrom
-costs-length g c [] rs = refl
-costs-length g c (kind ∷ kinds) rs = ap suc (costs-length g (suc c) kinds rs)
-
 pub vectors-sized : (g : Network) (ts : List (List ℕ)) → Sized (length (g .kinds)) (map (costOf g) ts)
 unfolding costOf
-vectors-sized g ts w m = let t = map-out (costOf g) ts m in sym (ap length (t .2)) ∙ costs-length g 0 (g .kinds) (t .0)
+vectors-sized g ts w m = let t = map-out (costOf g) ts m in sym (ap length (t .2)) ∙ kinds-length (λ kind c. costBy kind g c (t .0)) 0 (g .kinds)

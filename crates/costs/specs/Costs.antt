@@ -46,14 +46,15 @@ costBy added = addedCost
 costBy worst = worstCost
 costBy closing = closingCost
 
-unfoldable pub costsFrom : Network → ℕ → List Kind → List ℕ → List ℕ
-costsFrom g c [] rs = []
-costsFrom g c (kind ∷ kinds) rs = costBy kind g c rs ∷ costsFrom g (suc c) kinds rs
+-- for each criterion from c on, what f makes of its kind and number
+unfoldable pub byKinds : (Kind → ℕ → ℕ) → ℕ → List Kind → List ℕ
+byKinds f c [] = []
+byKinds f c (kind ∷ kinds) = f kind c ∷ byKinds f (suc c) kinds
 
 -- the cost vector of a tree
 unfoldable pub costOf : Network → List ℕ → List ℕ
-unfolding costsFrom
-costOf g rs = costsFrom g 0 (g .kinds) rs
+unfolding byKinds
+costOf g rs = byKinds (λ kind c. costBy kind g c rs) 0 (g .kinds)
 
 unfoldable pub noneLarger : List ℕ → List ℕ → Bool
 noneLarger [] [] = true

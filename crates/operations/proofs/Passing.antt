@@ -44,7 +44,7 @@ no-cycle f a = tree-forest (graphIn f) (formed f a)
 pub greatest-cost : (f : List ℕ) → Accepted f → (rows : List ℕ) → T (isTree (graphIn f) rows) → (x : ℕ) → x ∈ costOf (networkOf f) rows → x ≤ 31000000
 unfolding costOf
 greatest-cost f a rows t x m =
-    omega (arith, costs-most (networkOf f) 1000000 (a .costs) 0 (networkOf f .kinds) rows x m, tree-out (graphIn f) rows t .size, node-count f, a .nodes-high)
+    omega (arith, costs-most (networkOf f) 1000000 (a .costs) rows x m, tree-out (graphIn f) rows t .size, node-count f, a .nodes-high)
 
 -- Count 0
 

@@ -1,7 +1,6 @@
 -- The rows of a path as the loops over them meet them: their number, those from step i on, the rules of cost step by step, that no sum is too large,
 -- and the rule that a criterion's byte names.
 use mathlib.Core.Path.{_∙_, _≡_, ap, refl, sym}
-use mathlib.Core.Bool.{Bool, false, true}
 use mathlib.Core.List.{List, [], _∷_}
 use Prim.Native.Nat.{_*_, _+_, _<_, _≤_, max, ℕ}
 use native.Mathlib.Decide.{decLt}
@@ -12,7 +11,7 @@ use lib.Seq.{drop-cons}
 use mir.Syntax.{w8}
 use mir.Val.{Fits}
 use borrow.Author.Tests.{eq-eqb, le-ltb, lt-ltb, ne-eqb}
-use Rattle.lists.specs.Lists.{any, filterB, largest, sum}
+use Rattle.lists.specs.Lists.{filterB, largest, sum}
 use Rattle.graph.specs.Paths.{Key}
 use Rattle.costs.specs.Costs.{addedCost, costAt, streetCost, worstCost}
 use Rattle.costs.specs.Network.{Network, rowAt}
@@ -36,20 +35,6 @@ module _ {rows : List ℕ} {n : ℕ} (counted : Counted rows n) (i : ℕ) where
 
   pub past : n ≤ i → drop i rows ≡ []
   past h = let over : length rows ≤ i = omega arith in drop-of-length-le rows over
-
-  -- whether some of them pass a test
-  module _ (p : ℕ → Bool) where
-    pub any-found : i < n → p (stepRow rows i) ≡ true → any p (drop i rows) ≡ true
-    unfolding any
-    any-found h e = ap (any p) (next h) ∙ (rw e)
-
-    pub any-next : i < n → p (stepRow rows i) ≡ false → any p (drop i rows) ≡ any p (drop (i + 1) rows)
-    unfolding any
-    any-next h e = ap (any p) (next h) ∙ (rw e)
-
-    pub any-past : n ≤ i → any p (drop i rows) ≡ false
-    unfolding any
-    any-past h = ap (any p) (past h)
 
 -- The rules of cost, in a loop that has come to step i with `so`, the sum or the largest so far; x is the cost of the row at step i, `now` what comes next
 

@@ -12,7 +12,7 @@ use Rattle.lists.specs.Lists.{range}
 use Rattle.lists.proofs.Members.{_∈_}
 use Rattle.lists.proofs.Tests.{pick-elim}
 use Rattle.graph.specs.Paths.{Key}
-use Rattle.costs.specs.Costs.{costBy, costOf, costsFrom}
+use Rattle.costs.specs.Costs.{byKinds, costBy, costOf}
 use Rattle.costs.specs.Network.{Kind}
 use Rattle.bounds.proofs.Limits.{by-kind}
 use Rattle.network_file.specs.File.{byteAt, consKind, kindBytes, kindOf, kindsOf, networkOf, sizesOf}
@@ -42,17 +42,20 @@ module _ (f rows : List ℕ) where
   abbrev costs : ℕ → ℕ → List ℕ
   costs c m = map (λ c. criterionOf f c rows) (range c m)
 
+  abbrev defined : ℕ → List Kind → List ℕ
+  defined = byKinds (λ kind c. costBy kind (networkOf f) c rows)
+
   -- of the m criteria from c on the first k, whose bytes all name kinds
-  costs-from : (c k m : ℕ) → k ≤ m → c + k ≤ sizesOf f .k → length (kinds c k) ≡ k → take k (costs c m) ≡ costsFrom (networkOf f) c (kinds c k) rows
-  unfolding range kindsOf costsFrom criterionOf
+  costs-from : (c k m : ℕ) → k ≤ m → c + k ≤ sizesOf f .k → length (kinds c k) ≡ k → take k (costs c m) ≡ defined c (kinds c k)
+  unfolding range kindsOf byKinds criterionOf
   costs-from c zero m h l e = refl
   costs-from c (suc k) zero h l e = absurd (omega arith)
   costs-from c (suc k) (suc m) h l e =
       rw (lt-ltb c (sizesOf f .k) (omega arith)) (one (kindOf (byteAt f (9 + c))) e (costs-from (suc c) k m (omega arith) (omega arith)))
     where
       one : (o : Option Kind) → length (consKind o (kinds (suc c) k)) ≡ suc k
-          → (length (kinds (suc c) k) ≡ k → take k (costs (suc c) m) ≡ costsFrom (networkOf f) (suc c) (kinds (suc c) k) rows)
-          → costByte o f c rows ∷ take k (costs (suc c) m) ≡ costsFrom (networkOf f) c (consKind o (kinds (suc c) k)) rows
+          → (length (kinds (suc c) k) ≡ k → take k (costs (suc c) m) ≡ defined (suc c) (kinds (suc c) k))
+          → costByte o f c rows ∷ take k (costs (suc c) m) ≡ defined c (consKind o (kinds (suc c) k))
       one none e rest = absurd (omega (arith, kinds-few (suc c) k))
       one (some kind) e rest = ap (λ (l : List ℕ). costBy kind (networkOf f) c rows ∷ l) (rest (omega arith))
 

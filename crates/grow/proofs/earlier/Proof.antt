@@ -1,5 +1,9 @@
-use mathlib.Core.Path.{_∙_, sym}
+-- The four cases: one step or the other is missing, the second comes before the first, or it does not.
+use mathlib.Core.Path.{_∙_, _≡_, sym}
+use mathlib.Core.Bool.{true}
 use borrow.Author.Needs.{needs}
+use Rattle.graph.specs.Paths.{follows}
+use Rattle.search.specs.Search.{keyOf}
 use Rattle.grow.proofs.earlier.Statement.{statement}
 use Rattle.grow.proofs.earlier.Tie as tie
 
@@ -24,8 +28,12 @@ returns-2 c = rw (c .before .before .before .a .given .1, c .enum-told2 .given .
 precedes-requires : tie.Need-precedes-requires
 precedes-requires c κs = search needs
 
+-- the second step comes before the first
+second-first : (c : tie.Then1) → follows (keyOf (c .before .before .before .b .given .0 .0)) (keyOf (c .before .before .before .before .before .before .a .given .0 .0)) ≡ true
+second-first c = sym (c .before .precedes .ensures) ∙ c .if1 .taken
+
 returns-3 : tie.Need-returns-3
-returns-3 c = rw (c .before .before .before .before .before .before .a .given .1, c .before .before .before .b .given .1, sym (c .before .precedes .ensures) ∙ c .if1 .taken)
+returns-3 c = rw (c .before .before .before .before .before .before .a .given .1, c .before .before .before .b .given .1, second-first c)
 
 returns-4 : tie.Need-returns-4
 returns-4 c = rw (c .before .before .before .before .before .before .a .given .1, c .before .before .before .b .given .1, sym (c .before .precedes .ensures) ∙ c .if1 .left)

@@ -1,4 +1,4 @@
--- The loop's invariant: the sum over all rows is the sum so far and that over the rows from step i on.
+-- The loop's invariant: the sum over all rows is the sum so far and that over the rows from step i on. Its measure: the steps to come.
 use Prim.Native.Nat.{_-_}
 use native.Mathlib.Omega.{arith}
 use borrow.Author.Needs.{needs}

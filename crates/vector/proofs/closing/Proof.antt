@@ -1,4 +1,4 @@
--- The loop's invariant: the sum is what the rows from step i on add to the closing cost of all rows.
+-- The loop's invariant: the sum is what the rows from step i on add to the closing cost of all rows. Its measure: the steps to come.
 use native.Mathlib.Omega.{arith}
 use borrow.Author.Needs.{needs}
 use Rattle.network_file.specs.File.{networkOf}

@@ -1,14 +1,14 @@
--- The loop's invariant: a row from step i on lies in the street exactly if one from step j on does.
+-- The loop's invariant: a row from step i on lies in the street exactly if one from step j on does. Its measure: the steps to come.
 use mathlib.Core.Path.{_∙_, _≡_, sym}
 use Prim.Native.Nat.{_-_}
 use lib.ListN.{drop}
 use borrow.Author.Needs.{needs}
 use borrow.Author.Tests.{eq-eqb, ne-eqb}
 use Rattle.lists.specs.Lists.{any}
+use Rattle.lists.proofs.Drops.{any-end, any-next, any-stop}
 use Rattle.network_file.specs.File.{networkOf}
 use Rattle.paths.specs.Path.{rowsIn}
 use Rattle.vector.specs.Vector.{liesIn}
-use Rattle.vector.proofs.Laws.{any-found, any-next, any-past}
 use Rattle.vector.proofs.comes_later.Statement.{statement}
 use Rattle.vector.proofs.comes_later.Tie as tie
 
@@ -30,7 +30,7 @@ street-of-requires c κs = search needs
 
 returns : tie.Need-returns Inv-loop μ-loop
 returns c =
-    sym (c .before .before .before .loop .inv ∙ any-found (c .before .before .before .before .steps .ensures) _ _ (c .before .before .loop-test .taken)
+    sym (c .before .before .before .loop .inv ∙ any-stop _ _ _ (rw (c .before .before .before .before .steps .ensures .whole) at (c .before .before .loop-test .taken))
     (eq-eqb _ _ (sym (c .before .street-of .ensures) ∙ c .if1 .taken)))
 
 add-j : tie.Need-add-j Inv-loop μ-loop
@@ -41,11 +41,11 @@ loop-less c = search needs
 
 loop-again : tie.Need-loop-again Inv-loop μ-loop
 loop-again c =
-    c .before .before .before .loop .inv ∙ any-next (c .before .before .before .before .steps .ensures) _ _ (c .before .before .loop-test .taken)
+    c .before .before .before .loop .inv ∙ any-next _ _ _ (rw (c .before .before .before .before .steps .ensures .whole) at (c .before .before .loop-test .taken))
     (ne-eqb _ _ (λ e. c .if1 .left (c .before .street-of .ensures ∙ e)))
 
 returns-2 : tie.Need-returns-2 Inv-loop μ-loop
-returns-2 c = sym (c .before .loop .inv ∙ any-past (c .before .before .steps .ensures) _ _ (c .loop-test .left))
+returns-2 c = sym (c .before .loop .inv ∙ any-end _ _ _ (rw (c .before .before .steps .ensures .whole) at (c .loop-test .left)))
 
 pub comes-later-spec : {M : Type 1} → statement M
 comes-later-spec =
