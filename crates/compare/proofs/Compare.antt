@@ -1,34 +1,26 @@
--- What a turn of each loop over two vectors tells: to compare them is to compare what is left of them. To dominate is to be less with no
--- component larger (`dominates-is`); and no row meets a vector from the row on that the table ends before (`none-short`).
-use mathlib.Core.Path.{_≡_, refl}
-use mathlib.Core.Logic.{⊎-elim}
+-- What a turn of each loop over two vectors tells: to compare them is to compare what is left of them, or to take the case one component further
+-- (`case-more`, `case-end`); and no row meets a vector from the row on that the table ends before (`none-short`).
+use mathlib.Core.Path.{_≡_, refl, sym}
 use mathlib.Core.Bool.{false, true}
 use mathlib.Core.List.{List, [], _∷_}
 use Prim.Native.Nat.{_*_, _+_, _-_, _<_, _≤_, suc, zero, ℕ}
 use native.Mathlib.Numerals.{add-one}
 use native.Mathlib.Omega.{arith}
 use borrow.Author.Tests.{eq-eqb, le-leb, le-ltb, lt-leb, lt-ltb, ne-eqb}
-use lib.Dec.{T, leb}
 use lib.ListN.{drop, drop-of-length-le, getD, length, length-drop, length-take, take}
 use lib.Seq.{drop-cons}
-use Rattle.lists.specs.Lists.{any, both}
-use Rattle.lists.proofs.Tests.{T-both, T-false, T-same}
-use Rattle.lists.proofs.Orders.{less-ne}
-use Rattle.costs.specs.Costs.{dominates, noneLarger, someSmaller, vectorLess}
-use Rattle.costs.proofs.Vectors.{dominates-less, noneLarger-cases, vector-order}
+use Rattle.lists.specs.Lists.{any}
+use Rattle.lists.proofs.Tests.{T-false}
+use Rattle.costs.specs.Cases.{Case, caseAfter, isBetter, nextCase}
+use Rattle.costs.specs.Costs.{dominates, noneLarger, vectorLess}
+use Rattle.costs.proofs.Cases.{dominates-last}
+use Rattle.costs.proofs.Vectors.{noneLarger-exactly}
 use Rattle.pages.specs.Pages.{pieces}
 use Rattle.compare.proofs.Rows.{rest}
 
--- what is not larger is as long, so that vectors of different lengths fail the test
-none-long : (v w : List ℕ) → T (noneLarger v w) → length v ≡ length w
-unfolding noneLarger
-none-long [] [] t = refl
-none-long [] (y ∷ w) t = absurd t
-none-long (x ∷ v) [] t = absurd t
-none-long (x ∷ v) (y ∷ w) t = omega (arith, none-long v w (T-both (leb x y) (noneLarger v w) .0 t .1))
-
+-- vectors of different lengths fail the test
 pub none-unequal : (v w : List ℕ) → ¬ (length v ≡ length w) → noneLarger v w ≡ false
-none-unequal v w n = T-false (noneLarger v w) .0 (λ t. n (none-long v w t))
+none-unequal v w n = T-false (noneLarger v w) .0 (λ t. n (noneLarger-exactly v w .0 t .0))
 
 less-nil : (v : List ℕ) → vectorLess v [] ≡ false
 unfolding vectorLess
@@ -69,12 +61,16 @@ module _ (v w : List ℕ) (i : ℕ) where
     unfolding vectorLess
     less-more l l′ = rw (drop-cons v i 0 h, drop-cons w i 0 h′, le-ltb (getD v i 0) (getD w i 0) l, eq-eqb (getD v i 0) (getD w i 0) (omega arith), add-one)
 
-pub dominates-is : (v w : List ℕ) → both (vectorLess v w) (noneLarger v w) ≡ dominates v w
-dominates-is v w = T-same (both (vectorLess v w) (noneLarger v w)) (dominates v w) (λ t. to (T-both (vectorLess v w) (noneLarger v w) .0 t))
-    (λ d. T-both (vectorLess v w) (noneLarger v w) .1 (dominates-less v w d, T-both (noneLarger v w) (someSmaller v w) .0 d .0))
-  where
-    to : T (vectorLess v w) × T (noneLarger v w) → T (dominates v w)
-    to (l, n) = ⊎-elim (λ q. absurd (less-ne vector-order l q)) (λ d. d) (noneLarger-cases v w (none-long v w n) n)
+-- the case with one component more, and what the last one tells
+module _ (v w : List ℕ) (i : ℕ) where
+  pub case-more : {c d : Case} → c ≡ caseAfter i v w → d ≡ nextCase c (getD v i 0) (getD w i 0) → d ≡ caseAfter (i + 1) v w
+  unfolding caseAfter
+  case-more e f = rw (f, e, add-one)
+
+  pub case-end : length v ≡ length w → i ≤ length v → length v ≤ i → {c : Case} → c ≡ caseAfter i v w → isBetter c ≡ dominates v w
+  case-end e h l f =
+      let last : i ≡ length v = omega arith in
+      rw (f, last) (sym (dominates-last v w e))
 
 -- such a row is shorter than the vector
 pieces-short : (v t : List ℕ) (n : ℕ) → length t < length v → any (λ u. noneLarger u v) (pieces (length v) n t) ≡ false

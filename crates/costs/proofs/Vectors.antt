@@ -1,14 +1,17 @@
 -- The order of vectors, `vectorLess`, is a strict total order (`vector-order`), and equality of vectors is decided (`vector-eq?`).
+-- `noneLarger` and `someSmaller` say what they are named for, component by component (`noneLarger-exactly`, `someSmaller-exactly`).
 -- Dominance is a strict partial order on vectors of one length (`dominates-irrefl`, `dominates-trans`), what dominates is less
 -- (`dominates-less`), and `noneLarger` tests in one walk whether a vector equals or dominates another (`noneLarger-cases`, `noneLarger-is`).
-use mathlib.Core.Path.{_≡_, ap₂, refl, subst, sym}
-use mathlib.Core.Logic.{_⊎_, inl, inr, ⊎-elim}
+use mathlib.Core.Path.{_∙_, _≡_, ap, ap₂, refl, subst, sym}
+use mathlib.Core.Logic.{_↔_, _⊎_, inl, inr, ⊎-elim}
 use mathlib.Core.Bool.{Bool}
 use mathlib.Core.List.{List, [], _∷_}
-use Prim.Native.Nat.{_<_, _≤_, ℕ}
+use Prim.Native.Nat.{_<_, _≤_, suc, zero, ℕ}
+use native.Mathlib.Decide.{decLt}
 use native.Mathlib.Omega.{arith}
 use lib.Dec.{T, eqb, eqb→eq, leb, leb→le, le→leb, ltb, ltb→lt, lt→ltb}
-use lib.ListN.{length}
+use lib.ListN.{getD, length}
+use lib.Seq.{ext-getD}
 use Rattle.lists.specs.Lists.{both, either, same}
 use Rattle.lists.proofs.Members.{same-of, same-out}
 use Rattle.lists.proofs.Orders.{Everywhere, StrictTotal, compared, is-equal, is-greater, is-less, less-ne}
@@ -71,45 +74,58 @@ vector-eq? v w =
     elim (compared vector-order v w tt tt)
     [ is-less h ↦ no (less-ne vector-order h) | is-equal e ↦ yes e | is-greater h ↦ no (λ e. less-ne vector-order h (sym e)) ]
 
--- `noneLarger` is a partial order on vectors of one length.
-pub noneLarger-refl : (v : List ℕ) → T (noneLarger v v)
-unfolding noneLarger
-noneLarger-refl [] = tt
-noneLarger-refl (x ∷ v) = T-both (leb x x) (noneLarger v v) .1 (le→leb x x (omega arith), noneLarger-refl v)
-
--- the head and the tail of `noneLarger`
+-- the head of `noneLarger`
 noneLarger-head : (x y : ℕ) (b : Bool) → T (both (leb x y) b) → x ≤ y
 noneLarger-head x y b t = leb→le x y (T-both (leb x y) b .0 t .0)
 
-pub noneLarger-trans : (u v w : List ℕ) → length u ≡ length v → T (noneLarger u v) → T (noneLarger v w) → T (noneLarger u w)
+-- The vectors are of one length, and no component is larger.
+pub noneLarger-exactly : (v w : List ℕ) → T (noneLarger v w) ↔ ((length v ≡ length w) × ((j : ℕ) → j < length v → getD v j 0 ≤ getD w j 0))
 unfolding noneLarger
-noneLarger-trans [] [] w e p q = q
-noneLarger-trans [] (y ∷ v) w e p q = absurd p
-noneLarger-trans (x ∷ u) [] w e p q = absurd p
-noneLarger-trans (x ∷ u) (y ∷ v) [] e p q = absurd q
-noneLarger-trans (x ∷ u) (y ∷ v) (z ∷ w) e p q =
-    T-both (leb x z) (noneLarger u w) .1 (
-      le→leb x z (omega (arith, noneLarger-head x y (noneLarger u v) p, noneLarger-head y z (noneLarger v w) q)),
-      noneLarger-trans u v w (omega arith) (T-both (leb x y) (noneLarger u v) .0 p .1) (T-both (leb y z) (noneLarger v w) .0 q .1),
-    )
+noneLarger-exactly [] [] = (λ t. (refl, λ j h. omega arith), λ p. tt)
+noneLarger-exactly [] (y ∷ w) = (λ t. absurd t, λ p. omega arith)
+noneLarger-exactly (x ∷ v) [] = (λ t. absurd t, λ p. omega arith)
+noneLarger-exactly (x ∷ v) (y ∷ w) = (
+  λ t. let (e, h) = noneLarger-exactly v w .0 (T-both (leb x y) (noneLarger v w) .0 t .1) in (ap suc e, each (noneLarger-head x y (noneLarger v w) t) h),
+  λ (e, h). T-both (leb x y) (noneLarger v w) .1 (le→leb x y (h 0 (omega arith)), noneLarger-exactly v w .1 (omega arith, λ j k. h (suc j) (omega arith))),
+)
+  where
+    each : x ≤ y → ((j : ℕ) → j < length v → getD v j 0 ≤ getD w j 0) → (j : ℕ) → j < length (x ∷ v) → getD (x ∷ v) j 0 ≤ getD (y ∷ w) j 0
+    each l h zero k = l
+    each l h (suc j) k = h j (omega arith)
+
+-- One component is smaller; past its end a vector reads as 0, below which none is.
+pub someSmaller-exactly : (v w : List ℕ) → T (someSmaller v w) ↔ ((j : ℕ) × (j < length v) × (getD v j 0 < getD w j 0))
+unfolding someSmaller
+someSmaller-exactly [] w = (λ t. absurd t, λ (j, h, k). omega arith)
+someSmaller-exactly (x ∷ v) [] = (λ t. absurd t, λ (j, h, k). omega arith)
+someSmaller-exactly (x ∷ v) (y ∷ w) = (
+  λ t. ⊎-elim (λ (l : T (ltb x y)). (0, omega arith, ltb→lt x y l))
+      (λ (r : T (someSmaller v w)). let (j, h, k) = someSmaller-exactly v w .0 r in (suc j, omega arith, k)) (T-either (ltb x y) (someSmaller v w) .0 t),
+  found (someSmaller-exactly v w .1),
+)
+  where
+    found : ((j : ℕ) × (j < length v) × (getD v j 0 < getD w j 0) → T (someSmaller v w))
+        → (j : ℕ) × (j < length (x ∷ v)) × (getD (x ∷ v) j 0 < getD (y ∷ w) j 0) → T (either (ltb x y) (someSmaller v w))
+    found behind (zero, h, k) = T-either (ltb x y) (someSmaller v w) .1 (inl (lt→ltb x y k))
+    found behind (suc j, h, k) = T-either (ltb x y) (someSmaller v w) .1 (inr (behind (j, omega arith, k)))
+
+-- `noneLarger` is a partial order on vectors of one length.
+pub noneLarger-refl : (v : List ℕ) → T (noneLarger v v)
+noneLarger-refl v = noneLarger-exactly v v .1 (refl, λ j h. omega arith)
+
+pub noneLarger-trans : (u v w : List ℕ) → length u ≡ length v → T (noneLarger u v) → T (noneLarger v w) → T (noneLarger u w)
+noneLarger-trans u v w e p q =
+    let (f, h) = noneLarger-exactly v w .0 q in
+    noneLarger-exactly u w .1 (e ∙ f, λ j k. omega (arith, noneLarger-exactly u v .0 p .1 j k, h j (omega arith)))
 
 -- not larger, then smaller somewhere: smaller somewhere
 noneLarger-someSmaller : (u v w : List ℕ) → length u ≡ length v → T (noneLarger u v) → T (someSmaller v w) → T (someSmaller u w)
-unfolding noneLarger someSmaller
-noneLarger-someSmaller [] [] w e p q = absurd q
-noneLarger-someSmaller [] (y ∷ v) w e p q = absurd (omega arith)
-noneLarger-someSmaller (x ∷ u) [] w e p q = absurd q
-noneLarger-someSmaller (x ∷ u) (y ∷ v) [] e p q = absurd q
-noneLarger-someSmaller (x ∷ u) (y ∷ v) (z ∷ w) e p q = ⊎-elim
-    (λ (h : T (ltb y z)). T-either (ltb x z) (someSmaller u w) .1 (inl (lt→ltb x z (omega (arith, noneLarger-head x y (noneLarger u v) p, ltb→lt y z h)))))
-    (λ (h : T (someSmaller v w)). T-either (ltb x z) (someSmaller u w) .1 (inr (noneLarger-someSmaller u v w (omega arith) (T-both (leb x y) (noneLarger u v) .0 p .1) h)))
-    (T-either (ltb y z) (someSmaller v w) .0 q)
+noneLarger-someSmaller u v w e p q =
+    let (j, h, k) = someSmaller-exactly v w .0 q in
+    someSmaller-exactly u w .1 (j, omega arith, omega (arith, noneLarger-exactly u v .0 p .1 j (omega arith)))
 
 someSmaller-irrefl : (v : List ℕ) → ¬ T (someSmaller v v)
-unfolding someSmaller
-someSmaller-irrefl [] t = t
-someSmaller-irrefl (x ∷ v) t =
-    ⊎-elim (λ (h : T (ltb x x)). omega (arith, ltb→lt x x h)) (someSmaller-irrefl v) (T-either (ltb x x) (someSmaller v v) .0 t)
+someSmaller-irrefl v t = let (j, h, k) = someSmaller-exactly v v .0 t in omega arith
 
 -- `dominates` is a strict partial order on vectors of one length.
 pub dominates-noneLarger : (v w : List ℕ) → T (dominates v w) → T (noneLarger v w)
@@ -144,13 +160,10 @@ pub dominates-less : (v w : List ℕ) → T (dominates v w) → T (vectorLess v 
 dominates-less v w t = smaller-vectorLess v w (dominates-noneLarger v w t) (dominates-someSmaller v w t)
 
 noneLarger-equal : (v w : List ℕ) → length v ≡ length w → T (noneLarger v w) → (¬ T (someSmaller v w)) → v ≡ w
-unfolding noneLarger someSmaller
-noneLarger-equal [] [] e p q = refl
-noneLarger-equal [] (y ∷ w) e p q = absurd (omega arith)
-noneLarger-equal (x ∷ v) [] e p q = absurd (omega arith)
-noneLarger-equal (x ∷ v) (y ∷ w) e p q = ap₂ (λ (a : ℕ) (l : List ℕ). a ∷ l)
-    (omega (arith, noneLarger-head x y (noneLarger v w) p, not-ltb→le x y (λ (h : T (ltb x y)). q (T-either (ltb x y) (someSmaller v w) .1 (inl h)))))
-    (noneLarger-equal v w (omega arith) (T-both (leb x y) (noneLarger v w) .0 p .1) (λ (h : T (someSmaller v w)). q (T-either (ltb x y) (someSmaller v w) .1 (inr h))))
+noneLarger-equal v w e p n = ext-getD 0 v w e (λ j h. elim (decLt (getD v j 0) (getD w j 0)) [
+  | yes l ↦ absurd (n (someSmaller-exactly v w .1 (j, h, l)))
+  | no l ↦ omega (arith, noneLarger-exactly v w .0 p .1 j h)
+])
 
 -- Not larger is: equal, or dominates.
 pub noneLarger-cases : (v w : List ℕ) → length v ≡ length w → T (noneLarger v w) → (v ≡ w) ⊎ T (dominates v w)

@@ -4,6 +4,7 @@ use Rattle.lists.specs.Lists.{all, filterB, first, insert, largest, member, ran
 use Rattle.graph.specs.Graph.{isTree}
 use Rattle.graph.specs.Paths.{ascending, isMinimal, keysLess, placeOf, stepOf, stepsFrom, trees}
 use Rattle.checks.specs.Checks.{checked, ended, firstUnmet}
+use Rattle.costs.specs.Cases.{caseAfter}
 use Rattle.costs.specs.Costs.{costOf, frontOf, frontTrees, noneLarger, once, someSmaller, streetsOf, treeWith, vectorLess}
 use Rattle.network_file.specs.File.{fileChecks, networkOf, openOf}
 use Rattle.operations.specs.Operations.{costCall, costChecks, drawnChecks, frontCall, frontChecks, frontOver, orderCall, orderChecks, pageCall, pageChecks, reachCall, reachedNodes, startChecks, treeChecks, wordOf}
@@ -11,5 +12,5 @@ use Rattle.pages.specs.Pages.{behind, capacity, flat}
 use Rattle.examples.specs.Trials.{AllRight, table}
 
 pub trials-right : AllRight table
-unfolding all range filterB first insert sort sequences same member sum largest placeOf stepOf stepsFrom ascending keysLess isMinimal isTree trees streetsOf costOf noneLarger someSmaller vectorLess once frontOf treeWith frontTrees behind flat capacity firstUnmet checked ended networkOf fileChecks openOf reachedNodes wordOf reachCall treeChecks drawnChecks startChecks orderChecks orderCall costChecks costCall pageChecks pageCall frontOver frontChecks frontCall
-trials-right = (refl, (refl, (refl, (refl, (refl, (refl, (refl, (refl, (refl, (refl, (refl, (refl, (refl, (refl, (refl, (refl, (refl, (refl, (refl, (refl, (refl, (refl, (refl, (refl, (refl, (refl, (refl, (refl, (refl, (refl, (refl, (refl, (refl, (refl, (refl, (refl, (refl, (refl, (refl, (refl, (refl, tt)))))))))))))))))))))))))))))))))))))))))
+unfolding all range filterB first insert sort sequences same member sum largest placeOf stepOf stepsFrom ascending keysLess isMinimal isTree trees streetsOf costOf noneLarger someSmaller vectorLess caseAfter once frontOf treeWith frontTrees behind flat capacity firstUnmet checked ended networkOf fileChecks openOf reachedNodes wordOf reachCall treeChecks drawnChecks startChecks orderChecks orderCall costChecks costCall pageChecks pageCall frontOver frontChecks frontCall
+trials-right = (refl, (refl, (refl, (refl, (refl, (refl, (refl, (refl, (refl, (refl, (refl, (refl, (refl, (refl, (refl, (refl, (refl, (refl, (refl, (refl, (refl, (refl, (refl, (refl, (refl, (refl, (refl, (refl, (refl, (refl, (refl, (refl, (refl, (refl, (refl, (refl, (refl, (refl, (refl, (refl, (refl, (refl, (refl, (refl, (refl, tt)))))))))))))))))))))))))))))))))))))))))))))

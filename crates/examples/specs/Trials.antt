@@ -1,10 +1,14 @@
 -- Document 01's starred trials, as questions to the definitions of the operations, each with its answer, on network A's file; and trials
--- of document 02's row states (#102) and first witness (#101) on files with the same ends, and of streets closed once (#103) on network C's.
+-- of document 02's row states (#102) and first witness (#101) on files with the same ends, of streets closed once (#103) on network C's, and of
+-- comparison by cases (#105).
 use mathlib.Core.Path.{_≡_}
 use mathlib.Core.Bool.{Bool, false, true}
-use mathlib.Core.List.{List, [], _∷_}
-use Prim.Native.Nat.{ℕ}
+use mathlib.Core.List.{List, [], _∷_, map}
+use Prim.Native.Nat.{suc, ℕ}
+use lib.ListN.{length}
+use Rattle.lists.specs.Lists.{range}
 use Rattle.checks.specs.Checks.{Ended, Outcome, answered, refused}
+use Rattle.costs.specs.Cases.{Case, caseAfter, soFarBetter, soFarEqual, worseSomewhere}
 use Rattle.costs.specs.Costs.{dominates, front}
 use Rattle.costs.specs.Network.{Network}
 use Rattle.network_file.specs.File.{Sizes, networkOf, openOf}
@@ -71,8 +75,9 @@ pub data Trial : Type 0 where
   page : List ℕ → List ℕ → Ended Paged (List ℕ) → Trial
   -- Front with tables of three places each, which hold one row
   frontIn : List ℕ → Ended Fronted FrontTables → Trial
-  -- and of two vectors
+  -- and of two vectors: dominance, and the cases after each number of components
   dominance : List ℕ → List ℕ → Bool → Trial
+  cases : List ℕ → List ℕ → List Case → Trial
 
 abbrev pub buffer : List ℕ
 buffer = 7 ∷ 8 ∷ 9 ∷ []
@@ -88,6 +93,7 @@ Right (cost f rows e) = costCall f rows buffer ≡ e
 Right (page f start e) = pageCall f buffer start ≡ e
 Right (frontIn f e) = frontCall f buffer buffer ≡ e
 Right (dominance v w b) = dominates v w ≡ b
+Right (cases v w l) = map (λ i. caseAfter i v w) (range 0 (suc (length v))) ≡ l
 
 abbrev pub AllRight : List Trial → Type 0
 AllRight [] = Unit {0}
@@ -155,4 +161,9 @@ table =
     ∷ cost fileC (0 ∷ 3 ∷ []) (wrote (5 ∷ 8 ∷ 9 ∷ []))
     ∷ cost fileC (2 ∷ 4 ∷ []) (wrote (8 ∷ 5 ∷ 9 ∷ []))
     ∷ frontIn fileC (fronted 1 false (5 ∷ 6 ∷ 9 ∷ []) (0 ∷ 1 ∷ 9 ∷ []))
+    -- document 02, #105: the starred comparisons by cases; and what is worse somewhere stays so
+    ∷ cases (7 ∷ 7 ∷ []) (9 ∷ 7 ∷ []) (soFarEqual ∷ soFarBetter ∷ soFarBetter ∷ [])
+    ∷ cases (7 ∷ 7 ∷ []) (7 ∷ 7 ∷ []) (soFarEqual ∷ soFarEqual ∷ soFarEqual ∷ [])
+    ∷ cases (7 ∷ 7 ∷ []) (8 ∷ 6 ∷ []) (soFarEqual ∷ soFarBetter ∷ worseSomewhere ∷ [])
+    ∷ cases (8 ∷ 6 ∷ []) (7 ∷ 7 ∷ []) (soFarEqual ∷ worseSomewhere ∷ worseSomewhere ∷ [])
     ∷ []
