@@ -101,6 +101,7 @@ module _ (v w : List ℕ) where
   pub dominates-unequal : ¬ (length v ≡ length w) → dominates v w ≡ false
   dominates-unequal n = T-false (dominates v w) .0 (λ t. n (noneLarger-exactly v w .0 (dominates-noneLarger v w t) .0))
 
+-- the same as a test
 is-better : (c : Case) → T (isBetter c) ↔ (c ≡ soFarBetter)
 is-better worseSomewhere = (λ t. absurd t, λ e. subst (λ (c : Case). T (isBetter c)) (sym e) tt)
 is-better soFarEqual = (λ t. absurd t, λ e. subst (λ (c : Case). T (isBetter c)) (sym e) tt)

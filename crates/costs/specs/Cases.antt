@@ -1,6 +1,5 @@
--- Two vectors compared component by component, by cases (document 02, #105): v is the one that may dominate, w the other.
--- `ByCases` is what each case says, after every number of components; proofs/Cases.antt shows it, and that v dominates exactly if its last case is
--- 'so far better'.
+-- Two vectors compared component by component, by cases (document 02, #105): v is the one that may dominate, w the other. `by-cases` of
+-- proofs/Cases.antt shows what `ByCases` says, and `dominates-exactly` that v dominates w exactly if the last case is 'so far better'.
 use mathlib.Core.Path.{_≡_}
 use mathlib.Core.Logic.{_↔_}
 use mathlib.Core.Bool.{Bool, false, true}
@@ -31,6 +30,7 @@ caseAfter (suc i) v w = nextCase (caseAfter i v w) (getD v i 0) (getD w i 0)
 abbrev pub lastCase : List ℕ → List ℕ → Case
 lastCase v w = caseAfter (length v) v w
 
+-- what the last case answers: whether v dominates w
 abbrev pub isBetter : Case → Bool
 isBetter worseSomewhere = false
 isBetter soFarEqual = false
@@ -44,7 +44,8 @@ SomeLarger i v w = (j : ℕ) × (j < i) × (getD w j 0 < getD v j 0)
 abbrev pub AllEqual : ℕ → List ℕ → List ℕ → Type 0
 AllEqual i v w = (j : ℕ) → j < i → getD v j 0 ≡ getD w j 0
 
--- each case exactly where it says what is so
+-- After the first i components the case is 'worse somewhere' exactly if one of them is larger, 'so far equal' exactly if all are equal, else
+-- 'so far better'.
 pub record ByCases (i : ℕ) (v w : List ℕ) : Type 0 where
   pub worse : (caseAfter i v w ≡ worseSomewhere) ↔ SomeLarger i v w
   pub equal : (caseAfter i v w ≡ soFarEqual) ↔ AllEqual i v w
