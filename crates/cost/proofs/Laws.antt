@@ -1,20 +1,17 @@
 -- Laws of Cost: the part of the path's vector that is written, and the call's end by the number of `drawn` and the buffer's length.
-use mathlib.Core.Path.{_∙_, _≡_, ap, sym}
-use mathlib.Core.List.{List}
+use mathlib.Core.Path.{_∙_, _≡_, ap, refl, sym}
+use mathlib.Core.List.{List, []}
 use Prim.Native.Nat.{_<_, _≤_, ℕ}
 use native.Mathlib.Omega.{arith}
 use lib.ListN.{length, length-take, take}
 use borrow.Author.Tests.{le-leb, lt-leb}
 use Rattle.lists.specs.Lists.{range}
 use Rattle.lists.proofs.Members.{_∈_, take-out}
-use Rattle.graph.proofs.PathOf.{pathOf-only}
-use Rattle.graph.proofs.Tree.{minimal-tree, tree-out}
-use Rattle.checks.specs.Checks.{answered, refused}
+use Rattle.checks.specs.Checks.{answered, firstUnmet, refused}
 use Rattle.costs.specs.Costs.{costOf}
 use Rattle.network_file.specs.File.{Sizes, networkOf, sizesOf}
-use Rattle.operations.specs.Operations.{costCall, costChecks, graphIn, over}
-use Rattle.operations.proofs.Costs.{cost-same}
-use Rattle.operations.proofs.Files.{formed}
+use Rattle.operations.specs.Operations.{costCall, costChecks, over}
+use Rattle.operations.proofs.Costs.{path-costs}
 use Rattle.drawn.specs.Answers.{drawnCall}
 use Rattle.drawn.proofs.Answers.{Passed, answered-by, call-met, call-refused, call-short}
 use Rattle.tried.specs.Answers.{drawnOf}
@@ -28,13 +25,13 @@ use Rattle.paths.specs.Path.{rowsIn}
 module _ (f rows : List ℕ) (d : DrawnAnswer) (asked : drawnOf d ≡ drawnCall f rows) where
   pub cost-refused : (buffer : List ℕ) → ¬ (d .number ≡ 0) → record { outcome = refused (d .number); buffers = buffer } ≡ costCall f rows buffer
   unfolding costCall costChecks
-  cost-refused buffer n = sym (call-refused f rows d asked _ buffer _ n)
+  cost-refused buffer n = sym (call-refused f rows d asked _ [] tt buffer _ n)
 
   -- and the file's sizes are read
   module _ (z : d .number ≡ 0) {s : Sizes} (sizes : s ≡ sizesOf f) where
     pub cost-short : (buffer : List ℕ) → length buffer < s .k → record { outcome = refused 11; buffers = buffer } ≡ costCall f rows buffer
     unfolding costCall costChecks
-    cost-short buffer h = sym (call-short f rows d asked _ buffer _ z (lt-leb _ _ (rw sizes at h)))
+    cost-short buffer h = sym (call-short f rows d asked _ [] tt buffer _ z (lt-leb _ _ (rw sizes at h)))
 
     abbrev path : List ℕ
     path = rowsIn (d .path)
@@ -53,15 +50,10 @@ module _ (f rows : List ℕ) (d : DrawnAnswer) (asked : drawnOf d ≡ drawnCall 
 
       -- it is that of the rows as they were drawn
       part-costs : take (s .k) v ≡ costOf (networkOf f) rows
-      part-costs =
-          let wf = formed f (passed .file) in
-          let (minimal, in1, in2) = pathOf-only (graphIn f) wf rows path (passed .path) in
-          let once = tree-out (graphIn f) path (minimal-tree (graphIn f) wf path minimal) .once in
-          rw (sizes, read) (vector-costs f path (passed .file))
-          ∙ cost-same (networkOf f) path rows once (tree-out (graphIn f) rows (passed .tree) .once) in1 in2
+      part-costs = rw (sizes, read) (vector-costs f path (passed .file)) ∙ path-costs f (passed .file) rows path (passed .tree) (passed .path)
 
       pub cost-vector : (buffer : List ℕ) → s .k ≤ length buffer → record { outcome = answered tt; buffers = over (take (s .k) v) buffer } ≡ costCall f rows buffer
-      unfolding costCall costChecks
+      unfolding costCall costChecks firstUnmet
       cost-vector buffer h =
           ap (λ (l : List ℕ). record { outcome = answered tt; buffers = over l buffer }) part-costs
-          ∙ sym (call-met f rows d asked _ buffer _ z (le-leb _ _ (rw sizes at h)))
+          ∙ sym (call-met f rows d asked _ [] tt buffer _ z (le-leb _ _ (rw sizes at h)) refl)

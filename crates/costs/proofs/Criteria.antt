@@ -1,10 +1,12 @@
--- Vectors with a component for each criterion, by its kind (`byKinds`): their length, what holds of each component, and two of them compared.
-use mathlib.Core.Path.{_≡_, ap, ap₂, refl, subst, sym}
+-- Vectors with a component for each criterion, by its kind (`byKinds`): their length, each component, what holds of all, and two of them compared.
+use mathlib.Core.Path.{_∙_, _≡_, ap, ap₂, refl, subst, sym}
 use mathlib.Core.Logic.{⊎-elim}
+use mathlib.Core.Option.{Option·none-ne-some, Option·some-injective, some}
 use mathlib.Core.List.{List, [], _∷_, List·Memᴰ·cases-cons as mem-cases, List·Memᴰ·not-nil as mem-nil}
-use Prim.Native.Nat.{_≤_, suc, ℕ}
+use Prim.Native.Nat.{_+_, _≤_, suc, zero, ℕ}
+use native.Mathlib.Omega.{arith}
 use lib.Dec.{T, le→leb}
-use lib.ListN.{length}
+use lib.ListN.{getD, getElem?, length}
 use Rattle.lists.proofs.Members.{_∈_}
 use Rattle.lists.proofs.Tests.{T-both}
 use Rattle.costs.specs.Costs.{byKinds, noneLarger}
@@ -15,6 +17,12 @@ module _ (f : Kind → ℕ → ℕ) where
   unfolding byKinds
   kinds-length c [] = refl
   kinds-length c (kind ∷ kinds) = ap suc (kinds-length (suc c) kinds)
+
+  pub kinds-at : (c : ℕ) (kinds : List Kind) (i : ℕ) (kind : Kind) → getElem? kinds i ≡ some kind → getD (byKinds f c kinds) i 0 ≡ f kind (c + i)
+  unfolding byKinds
+  kinds-at c [] i kind e = absurd (Option·none-ne-some _ e)
+  kinds-at c (other ∷ kinds) zero kind e = ap₂ f (Option·some-injective _ _ e) (omega arith)
+  kinds-at c (other ∷ kinds) (suc i) kind e = kinds-at (suc c) kinds i kind e ∙ ap (f kind) (omega arith)
 
   pub kinds-each : (P : ℕ → Type 0) → ((kind : Kind) (c : ℕ) → P (f kind c)) → (c : ℕ) (kinds : List Kind) (x : ℕ) → x ∈ byKinds f c kinds → P x
   unfolding byKinds

@@ -1,6 +1,6 @@
 -- What `drawn` comes to by Open's answer (`open-stops`, `tried-drawn`), then by the states (`tree-stops`, `states-broken`, `states-kept`), and what its callers learn from its number: the first check that
--- is not met (`refused-by`), or that all are met and the path is the tree's (`answered-by`); and a call's end with check 11 behind (`call-refused`,
--- `call-short`, `call-met`).
+-- is not met (`refused-by`), or that all are met and the path is the tree's (`answered-by`); and a call's end with check 11 and others behind
+-- (`call-refused`, `call-short`, `call-stops`, `call-met`).
 use mathlib.Core.Path.{_∙_, _≡_, ap, refl, subst, sym}
 use mathlib.Core.Bool.{Bool, false, true}
 use mathlib.Core.Option.{Option, none, some}
@@ -167,24 +167,33 @@ module _ (f rows : List ℕ) (d : DrawnAnswer) (asked : drawnOf d ≡ drawnCall 
           long = sym (ap length e) ∙ count;
         }
 
-  -- a call with check 11, which is b, behind these
-  module _ (b : Bool) (before after : List ℕ) where
-    abbrev checks : List Check
-    checks = drawnTable f rows ++ (check 11 b ∷ [])
+  -- a call with check 11, which is b, and others behind these
+  module _ {A : Type 0} (b : Bool) (others : List Check) (answer : A) (before after : List ℕ) where
+    abbrev own : List Check
+    own = check 11 b ∷ others
 
-    abbrev call : Ended (Unit {0}) (List ℕ)
-    call = ended checks tt before after
+    abbrev call : Ended A (List ℕ)
+    call = ended (drawnTable f rows ++ own) answer before after
+
+    stops : (e : ℕ) → firstUnmet (drawnTable f rows ++ own) ≡ some e → call ≡ record { outcome = refused e; buffers = before }
+    stops = ended-unmet (drawnTable f rows ++ own) answer before after
 
     pub call-refused : ¬ (d .number ≡ 0) → call ≡ record { outcome = refused (d .number); buffers = before }
-    call-refused n = ended-unmet checks tt before after (d .number) (firstUnmet-stops (drawnTable f rows) (check 11 b ∷ []) (d .number) (refused-by n))
+    call-refused n = stops (d .number) (firstUnmet-stops (drawnTable f rows) own (d .number) (refused-by n))
 
     module _ (z : d .number ≡ 0) where
-      last : firstUnmet checks ≡ firstUnmet (check 11 b ∷ [])
-      last = firstUnmet-append (drawnTable f rows) (check 11 b ∷ []) (all-met z)
+      own-first : firstUnmet (drawnTable f rows ++ own) ≡ firstUnmet own
+      own-first = firstUnmet-append (drawnTable f rows) own (all-met z)
 
       pub call-short : b ≡ false → call ≡ record { outcome = refused 11; buffers = before }
-      call-short e = ended-unmet checks tt before after 11 (last ∙ firstUnmet-unmet (check 11 b) [] e)
+      call-short e = stops 11 (own-first ∙ firstUnmet-unmet (check 11 b) others e)
 
-      pub call-met : b ≡ true → call ≡ record { outcome = answered tt; buffers = after }
-      unfolding firstUnmet
-      call-met e = ended-met checks tt before after (last ∙ firstUnmet-met (check 11 b) [] e)
+      module _ (room : b ≡ true) where
+        last : firstUnmet (drawnTable f rows ++ own) ≡ firstUnmet others
+        last = own-first ∙ firstUnmet-met (check 11 b) others room
+
+        pub call-stops : (e : ℕ) → firstUnmet others ≡ some e → call ≡ record { outcome = refused e; buffers = before }
+        call-stops e stop = stops e (last ∙ stop)
+
+        pub call-met : firstUnmet others ≡ none → call ≡ record { outcome = answered answer; buffers = after }
+        call-met met = ended-met (drawnTable f rows ++ own) answer before after (last ∙ met)

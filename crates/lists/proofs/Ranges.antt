@@ -46,7 +46,7 @@ module _ (p : ℕ → Bool) where
 -- The entry at a place of a list over a range
 
 module _ {A : Type 0} (f : ℕ → A) where
-  getD-map-from : (from m r : ℕ) (d : A) → r < m → getD (map f (range from m)) r d ≡ f (from + r)
+  pub getD-map-from : (from m r : ℕ) (d : A) → r < m → getD (map f (range from m)) r d ≡ f (from + r)
   unfolding range
   getD-map-from from zero r d h = absurd (omega arith)
   getD-map-from from (suc m) zero d h = ap f (omega arith)

@@ -1,24 +1,26 @@
 -- What a file that meets all checks is (`accepted`): the limits of its sizes, its length, its kinds, ends and costs.
 -- The longest accepted file has 5,389 bytes (`longest`).
-use mathlib.Core.Path.{_∙_, _≡_, ap, refl, subst}
+use mathlib.Core.Path.{_∙_, _≡_, ap, refl, subst, sym}
 use mathlib.Core.Logic.{_⊎_, inl, inr, ⊎-elim}
 use mathlib.Core.Bool.{not}
 use mathlib.Core.Option.{Option, none, some}
-use mathlib.Core.List.{List, [], _∷_, List·Memᴰ·head as here, List·Memᴰ·tail as there, Memᴰ·map as map-in}
+use mathlib.Core.List.{List, [], _∷_, List·Memᴰ·head as here, map, Memᴰ·map as map-in, List·Memᴰ·tail as there}
 use Prim.Native.Nat.{_*_, _+_, _-_, _<_, _≤_, suc, zero, ℕ}
 use native.Mathlib.Decide.{decLt}
 use native.Mathlib.Nat.{mul-le-mul}
 use native.Mathlib.Omega.{arith}
 use lib.Dec.{T, T-not, eqb, eqb-refl, eqb→eq, leb, leb→le, ltb}
-use lib.ListN.{getD, length, length-map}
+use lib.ListN.{getD, getElem?, length, length-map}
 use Rattle.lists.specs.Lists.{all, both, either, range}
+use Rattle.lists.proofs.Ascending.{at-getD}
+use Rattle.lists.proofs.Maps.{map-at}
 use Rattle.lists.proofs.Members.{_∈_, all-out, range-in}
 use Rattle.lists.proofs.Ranges.{getD-map-past, getD-map-range, range-length}
 use Rattle.lists.proofs.Tests.{T-both, T-either, T-true, pick-elim}
 use Rattle.checks.specs.Checks.{Check, firstUnmet}
 use Rattle.checks.proofs.Checks.{met-all}
 use Rattle.costs.specs.Costs.{costAt}
-use Rattle.costs.specs.Network.{Kind, Row, noRow, «open», rowAt}
+use Rattle.costs.specs.Network.{Kind, Row, added, noRow, «open», rowAt}
 use Rattle.network_file.specs.File.{bodyMet, byteAt, consKind, costsMet, costsSound, endsMet, endsSound, fileChecks, isKind, isState, kindBytes, kindOf, kindsMet, kindsOf, lengthField, lengthMet, networkOf, rowBytes, rowIn, rowStart, sizesMet, sizesOf, stateByte, stateOf, stateOr, stateWidth, statesMet, version, versionMet, within}
 
 -- both ends of a row are nodes, and they differ
@@ -37,6 +39,7 @@ pub record Accepted (f : List ℕ) : Type 0 where
   pub criteria-high : sizesOf f .k ≤ 4
   pub long : length f ≡ 9 + sizesOf f .k + sizesOf f .m * rowBytes f
   pub kinds : length (networkOf f .kinds) ≡ sizesOf f .k
+  pub named : (c : ℕ) → c < sizesOf f .k → getElem? (networkOf f .kinds) c ≡ kindOf (byteAt f (9 + c))
   pub rows : length (networkOf f .rows) ≡ sizesOf f .m
   pub ends : (r : ℕ) → r < sizesOf f .m → EndsIn (sizesOf f .n) (rowIn f r)
   pub costs : (c r : ℕ) → costAt (networkOf f) c r ≤ 1000000
@@ -87,15 +90,29 @@ ends-out n row t =
       differ = λ e. T-not (eqb (row .firstEnd) (row .secondEnd)) d (subst (λ (x : ℕ). T (eqb (row .firstEnd) x)) e (eqb-refl (row .firstEnd)));
     }
 
-kinds-length : (bs : List ℕ) → T (all (λ b. isKind (kindOf b)) bs) → length (kindsOf bs) ≡ length bs
+-- where each byte names a kind, the kinds are theirs one by one
+kinds-are : (bs : List ℕ) → T (all (λ b. isKind (kindOf b)) bs) → map some (kindsOf bs) ≡ map kindOf bs
 unfolding all kindsOf
-kinds-length [] t = refl
-kinds-length (b ∷ bs) t =
-    let (s, rest) = T-both (isKind (kindOf b)) (all (λ b. isKind (kindOf b)) bs) .0 t in one (kindOf b) s ∙ ap suc (kinds-length bs rest)
+kinds-are [] t = refl
+kinds-are (b ∷ bs) t =
+    let (s, rest) = T-both (isKind (kindOf b)) (all (λ b. isKind (kindOf b)) bs) .0 t in
+    one (kindOf b) s ∙ ap (λ (l : List (Option Kind)). kindOf b ∷ l) (kinds-are bs rest)
   where
-    one : (o : Option Kind) → T (isKind o) → length (consKind o (kindsOf bs)) ≡ suc (length (kindsOf bs))
+    one : (o : Option Kind) → T (isKind o) → map some (consKind o (kindsOf bs)) ≡ o ∷ map some (kindsOf bs)
     one none s = absurd s
     one (some kind) s = refl
+
+module _ (bs : List ℕ) (t : T (all (λ b. isKind (kindOf b)) bs)) where
+  kinds-length : length (kindsOf bs) ≡ length bs
+  kinds-length = sym (length-map (kindsOf bs) some) ∙ ap length (kinds-are bs t) ∙ length-map bs kindOf
+
+  kinds-named : (c : ℕ) → c < length bs → getElem? (kindsOf bs) c ≡ kindOf (getD bs c 0)
+  kinds-named c h =
+      let few : c < length (kindsOf bs) = omega (arith, kinds-length) in
+      at-getD (kindsOf bs) c added few
+      ∙ sym (map-at some (kindsOf bs) c added none few)
+      ∙ ap (λ (l : List (Option Kind)). getD l c none) (kinds-are bs t)
+      ∙ map-at kindOf bs c 0 none h
 
 -- a row that the network lacks has no costs
 pub past-costs : (f : List ℕ) (c r : ℕ) → sizesOf f .m ≤ r → costAt (networkOf f) c r ≡ 0
@@ -125,6 +142,7 @@ module _ (f : List ℕ) (h : firstUnmet (fileChecks f) ≡ none) where
       let body = eqb→eq (lengthField f) (4 + k + m * rowBytes f) (met (record { number = 4; met = bodyMet f }) (there (there (there (here refl))))) in
       let whole = eqb→eq (lengthField f) (length f - 5) five in
       let atLeast = leb→le 9 (length f) nine in
+      let bytes : length (kindBytes f) ≡ k = length-map (range 0 k) (λ c. byteAt f (9 + c)) ∙ range-length 0 k in
       let kindly = met (record { number = 5; met = kindsMet f }) (there (there (there (there (here refl))))) in
       let ended = met (record { number = 6; met = endsMet f }) (there (there (there (there (there (here refl)))))) in
       let (some-bytes, versions) = T-both (ltb 0 (length f)) (either (eqb (version f) 1) (eqb (version f) 2)) .0 (met (record { number = 1; met = versionMet f }) (here refl)) in
@@ -137,7 +155,8 @@ module _ (f : List ℕ) (h : firstUnmet (fileChecks f) ≡ none) where
         criteria-low = within-out 1 4 k inK .0;
         criteria-high = within-out 1 4 k inK .1;
         long = omega arith;
-        kinds = kinds-length (kindBytes f) kindly ∙ length-map (range 0 k) (λ c. byteAt f (9 + c)) ∙ range-length 0 k;
+        kinds = kinds-length (kindBytes f) kindly ∙ bytes;
+        named = λ c l. kinds-named (kindBytes f) kindly c (omega (arith, bytes)) ∙ ap kindOf (getD-map-range (λ c. byteAt f (9 + c)) k c 0 l);
         rows = rows-length f;
         ends = λ r l. ends-out n (rowIn f r) (all-out (endsSound n) ended (map-in (rowIn f) (range-in 0 m r (omega arith) (omega arith))));
         costs = λ c r. elim (decLt r m) [

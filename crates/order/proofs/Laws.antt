@@ -1,11 +1,11 @@
 -- Laws of Order: the part of the path's array that is written, and the call's end by the number of `drawn` and the buffer's length.
-use mathlib.Core.Path.{_∙_, _≡_, ap, sym}
+use mathlib.Core.Path.{_∙_, _≡_, ap, refl, sym}
 use mathlib.Core.Option.{Option}
-use mathlib.Core.List.{List}
+use mathlib.Core.List.{List, []}
 use Prim.Native.Nat.{_<_, _≤_, ℕ}
 use lib.ListN.{length, length-map, take}
 use borrow.Author.Tests.{le-leb, lt-leb}
-use Rattle.checks.specs.Checks.{answered, refused}
+use Rattle.checks.specs.Checks.{answered, firstUnmet, refused}
 use Rattle.graph.specs.Paths.{pathIn}
 use Rattle.operations.specs.Operations.{orderCall, orderChecks, over}
 use Rattle.paths.specs.Path.{keysOf, rowsIn}
@@ -31,7 +31,7 @@ module _ (f rows : List ℕ) (d : DrawnAnswer) (asked : drawnOf d ≡ drawnCall 
   module _ (buffer : List ℕ) where
     pub order-refused : ¬ (d .number ≡ 0) → record { outcome = refused (d .number); buffers = buffer } ≡ orderCall f rows buffer
     unfolding orderCall orderChecks
-    order-refused n = sym (call-refused f rows d asked _ buffer _ n)
+    order-refused n = sym (call-refused f rows d asked _ [] tt buffer _ n)
 
     module _ (z : d .number ≡ 0) where
       passed : Passed f rows (rowsIn (d .path))
@@ -39,10 +39,10 @@ module _ (f rows : List ℕ) (d : DrawnAnswer) (asked : drawnOf d ≡ drawnCall 
 
       pub order-short : length buffer < length rows → record { outcome = refused 11; buffers = buffer } ≡ orderCall f rows buffer
       unfolding orderCall orderChecks
-      order-short h = sym (call-short f rows d asked _ buffer _ z (lt-leb _ _ (rw (passed .size) at h)))
+      order-short h = sym (call-short f rows d asked _ [] tt buffer _ z (lt-leb _ _ (rw (passed .size) at h)))
 
       pub order-path : length rows ≤ length buffer → record { outcome = answered tt; buffers = over (rowsIn (d .path)) buffer } ≡ orderCall f rows buffer
-      unfolding orderCall orderChecks
+      unfolding orderCall orderChecks firstUnmet
       order-path h =
-          sym (call-met f rows d asked _ buffer _ z (le-leb _ _ (rw (passed .size) at h))
+          sym (call-met f rows d asked _ [] tt buffer _ z (le-leb _ _ (rw (passed .size) at h)) refl
           ∙ ap (λ (ps : Option (List ℕ)). record { outcome = answered tt; buffers = over (pathIn ps) buffer }) (passed .path))
