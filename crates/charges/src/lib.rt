@@ -1,0 +1,1 @@
+//! Connection charge: the definitions and their laws, with no code.
