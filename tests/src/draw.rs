@@ -4,6 +4,15 @@
 use crate::file::{Network, Row, BARRED, MOST, MUST, OPEN};
 use crate::rng::Rng;
 
+/// The most nodes and rows of a network: for half of them few, for half as many as there may be.
+pub fn sizes(rng: &mut Rng) -> (usize, usize) {
+    if rng.once_in(2) {
+        (6, 12)
+    } else {
+        (32, 256)
+    }
+}
+
 /// A network of at most so many nodes and rows; there must be room for a spanning tree.
 pub fn network(rng: &mut Rng, most_nodes: usize, most_rows: usize) -> Network {
     let n = if rng.once_in(10) {

@@ -28,6 +28,18 @@ extern "C" {
         buffer_len: usize,
     ) -> u32;
 
+    fn planner_charge(
+        file: *const u8,
+        file_len: usize,
+        rows: *const u16,
+        rows_len: usize,
+        criterion: u32,
+        buffer: *mut u32,
+        buffer_len: usize,
+        answer: *mut u32,
+        answer_len: usize,
+    ) -> u32;
+
     fn planner_pick(
         n: u32,
         page: *const u16,
@@ -94,6 +106,30 @@ pub fn cost(file: &[u8], rows: &[u16], buffer: &mut [u32]) -> u32 {
             rows.len(),
             buffer.as_mut_ptr(),
             buffer.len(),
+        )
+    }
+}
+
+/// Connection charge: 0 with the charges in the buffer's first n - 1 places, and the quotient and the remainder in the
+/// first two places of the answer, or the refusal's number.
+pub fn charge(
+    file: &[u8],
+    rows: &[u16],
+    criterion: u32,
+    buffer: &mut [u32],
+    answer: &mut [u32],
+) -> u32 {
+    unsafe {
+        planner_charge(
+            file.as_ptr(),
+            file.len(),
+            rows.as_ptr(),
+            rows.len(),
+            criterion,
+            buffer.as_mut_ptr(),
+            buffer.len(),
+            answer.as_mut_ptr(),
+            answer.len(),
         )
     }
 }

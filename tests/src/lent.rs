@@ -2,8 +2,20 @@
 
 use std::fmt::Debug;
 
+use crate::rng::Rng;
+
 /// Places behind those that are lent.
 const BEYOND: usize = 4;
+
+/// A number of places about what is needed: too few, exactly enough, or more.
+pub fn places(needed: usize, rng: &mut Rng) -> usize {
+    match rng.between(0, 4) {
+        0 => rng.between(0, needed - 1),
+        1 => needed - 1,
+        2 => needed,
+        _ => needed + rng.between(1, 9),
+    }
+}
 
 pub struct Lent<T> {
     places: usize,

@@ -1,4 +1,4 @@
-//! Document 01's operations but Open, with document 02's row states (#102): the number of the check that refuses a call,
+//! Document 01's operations but Open, with document 02's row states (#102) and connection charge (#109): the number of the check that refuses a call,
 //! or what the call writes in the first places of what it is lent. A buffer is told by its number of places; its content
 //! has no say.
 
@@ -50,6 +50,46 @@ pub fn cost(file: &[u8], rows: &[u16], places: usize) -> Result<Vector, u32> {
         return Err(11);
     }
     Ok(costs::vector(&network, rows))
+}
+
+/// What the connection charge writes: the charges of nodes 2 to n, the whole quotient and the remainder.
+pub struct Charged {
+    pub charges: Vec<u32>,
+    pub quotient: u32,
+    pub remainder: u32,
+}
+
+/// Connection charge: the total of one added criterion.
+pub fn charge(file: &[u8], rows: &[u16], criterion: u32, places: usize) -> Result<Charged, u32> {
+    let network = reading::network(file)?;
+    drawn(&network, rows)?;
+    let nodes = network.width();
+    if places < nodes {
+        return Err(11);
+    }
+    if network.kinds.get(criterion as usize) != Some(&0) {
+        return Err(22);
+    }
+    let total = costs::vector(&network, rows)[criterion as usize];
+    Ok(split(total, nodes as u32))
+}
+
+/// Each node pays its share of what the nodes before it have left, rounded up, so that the first ones bear one more; the
+/// quotient is the least charge, and the remainder is how many are above it.
+pub fn split(total: u32, nodes: u32) -> Charged {
+    let mut left = total;
+    let pay = |behind: u32| {
+        let share = left.div_ceil(behind);
+        left -= share;
+        share
+    };
+    let charges: Vec<u32> = (1..=nodes).rev().map(pay).collect();
+    let quotient = *charges.iter().min().unwrap();
+    Charged {
+        quotient,
+        remainder: charges.iter().filter(|&&charge| charge > quotient).count() as u32,
+        charges,
+    }
 }
 
 /// Pick: the places of tree t.

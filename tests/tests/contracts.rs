@@ -36,6 +36,7 @@ fn the_first_table_has_every_operation() {
         "reach::reach",
         "order::order",
         "cost::cost",
+        "charge::charge",
         "page::page",
         "pick::pick",
         "front::front",

@@ -7,7 +7,7 @@ use planner_tests::damage::damaged;
 use planner_tests::draw;
 use planner_tests::ffi::{self, SHORT_ANSWER};
 use planner_tests::file::{network_a, Network, Row, BARRED, MOST, MUST, OPEN};
-use planner_tests::lent::Lent;
+use planner_tests::lent::{places, Lent};
 use planner_tests::operations;
 use planner_tests::rng::Rng;
 use planner_tests::trees;
@@ -282,25 +282,6 @@ fn parallel_musts(network: &Network) -> bool {
     pairs.windows(2).any(|two| two[0] == two[1])
 }
 
-/// Half of them with few nodes and rows, half of any size.
-fn sizes(rng: &mut Rng) -> (usize, usize) {
-    if rng.once_in(2) {
-        (6, 12)
-    } else {
-        (32, 256)
-    }
-}
-
-/// A number of places about what is needed: too few, exactly enough, or more.
-fn places(needed: usize, rng: &mut Rng) -> usize {
-    match rng.between(0, 4) {
-        0 => rng.between(0, needed - 1),
-        1 => needed - 1,
-        2 => needed,
-        _ => needed + rng.between(1, 9),
-    }
-}
-
 /// Reach, Order and Cost over networks that are made so; each of these checks must refuse many files, and each of those many
 /// drawn rows.
 fn seeded(make: impl Fn(&mut Rng) -> Network, of_files: &[usize], of_rows: &[usize]) {
@@ -346,7 +327,7 @@ fn seeded(make: impl Fn(&mut Rng) -> Network, of_files: &[usize], of_rows: &[usi
 #[test]
 fn seeded_networks() {
     let make = |rng: &mut Rng| {
-        let (nodes, rows) = sizes(rng);
+        let (nodes, rows) = draw::sizes(rng);
         draw::network(rng, nodes, rows)
     };
     seeded(make, &[1, 2, 3, 4, 5, 6, 7], &[8, 9, 10, 11]);
@@ -355,7 +336,7 @@ fn seeded_networks() {
 #[test]
 fn seeded_networks_with_states() {
     let make = |rng: &mut Rng| {
-        let (nodes, rows) = sizes(rng);
+        let (nodes, rows) = draw::sizes(rng);
         draw::network_with_states(rng, nodes, rows)
     };
     seeded(make, &[1, 2, 3, 4, 5, 6, 7, 14], &[8, 9, 10, 11, 15]);
@@ -364,7 +345,7 @@ fn seeded_networks_with_states() {
 #[test]
 fn seeded_networks_with_streets() {
     let make = |rng: &mut Rng| {
-        let (nodes, rows) = sizes(rng);
+        let (nodes, rows) = draw::sizes(rng);
         draw::network_with_streets(rng, nodes, rows)
     };
     seeded(make, &[1, 2, 3, 4, 5, 6, 7], &[8, 9, 10, 11]);

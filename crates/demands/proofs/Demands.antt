@@ -12,6 +12,7 @@ use Rattle.costs.proofs.Layouts.{layouts-part}
 use Rattle.network_file.specs.File.{fileChecks, networkOf, openOf}
 use Rattle.operations.specs.Operations.{check, costCall, costChecks, drawnChecks, frontCall, frontChecks, graphIn, orderCall, orderChecks, pageCall, pageChecks, reachCall, startChecks, treeChecks}
 use Rattle.operations.proofs.Runs.{claim}
+use Rattle.charges.specs.Charges.{chargeCall, chargeChecks}
 use Rattle.demands.specs.Demands.{Demand1, Demand2, Demand3, Passes, Tree, fileNumbers, numbers, startNumbers}
 use Rattle.demands.proofs.Fronts.{front-claim, front-is}
 use Rattle.demands.proofs.Pages.{complete, page-from}
@@ -27,13 +28,14 @@ start-others (r ∷ rs) = refl
 page-others : (f page start : List ℕ) → member 12 (numbers (check 11 (leb (width (graphIn f)) (length page)) ∷ startChecks (networkOf f) start)) ≡ false
 page-others f page start = ap (λ (l : List ℕ). member 12 (11 ∷ l)) (start-order (networkOf f) start) ∙ start-others start
 
-pub demand-1 : (f rows buffer page start costs witnesses : List ℕ) → Demand1 f rows buffer page start costs witnesses
-unfolding openOf reachCall orderCall costCall pageCall frontCall fileChecks orderChecks costChecks pageChecks frontChecks drawnChecks treeChecks
-demand-1 f rows buffer page start costs witnesses = record {
+pub demand-1 : (f rows : List ℕ) (criterion : ℕ) (buffer page start costs witnesses : List ℕ) → Demand1 f rows criterion buffer page start costs witnesses
+unfolding openOf reachCall orderCall costCall chargeCall pageCall frontCall fileChecks orderChecks costChecks chargeChecks pageChecks frontChecks drawnChecks treeChecks
+demand-1 f rows criterion buffer page start costs witnesses = record {
   opens = refuses-checked (fileChecks f) _;
   reaches = refuses-checked (fileChecks f) _;
   orders = refuses-ended (orderChecks f rows buffer) _ buffer _;
   prices = refuses-ended (costChecks f rows buffer) _ buffer _;
+  charges = refuses-ended (chargeChecks f rows criterion buffer) _ buffer _;
   pages = refuses-ended (pageChecks f page start) _ page _;
   fronts = refuses-ended (frontChecks f costs witnesses) _ (record { costs = costs; witnesses = witnesses }) _;
   pages-none = twelve f _ (page-others f page start) _ page _;
@@ -41,6 +43,7 @@ demand-1 f rows buffer page start costs witnesses = record {
   file-order = refl;
   order-order = refl;
   cost-order = refl;
+  charge-order = refl;
   page-order = ap (λ (l : List ℕ). fileNumbers ++ (12 ∷ 11 ∷ l)) (start-order (networkOf f) start);
   front-order = refl;
 }

@@ -1,13 +1,15 @@
--- Demand 2, of a file that passes: the one minimal path of each spanning tree (`path-of-tree`), Order and Cost of a tree of the network (`drawn`), and when
--- there is one: the list has a first member (`tree-listed`), which Reach's size and the must rows tell (`tree-exists`); 12 says that there is none (`twelve`).
-use mathlib.Core.Path.{_∙_, _≡_, ap, refl}
+-- Demand 2, of a file that passes: the one minimal path of each spanning tree (`path-of-tree`); Order, Cost and the charge of a tree of the network
+-- (`drawn`); and when there is one: the list has a first member (`tree-listed`), which Reach's size and the must rows tell (`tree-exists`); 12 says that
+-- there is none (`twelve`).
+use mathlib.Core.Path.{_∙_, _≡_, ap, refl, subst, sym}
 use mathlib.Core.Logic.{_↔_}
 use mathlib.Core.Bool.{false, true}
 use mathlib.Core.Option.{none, some}
 use mathlib.Core.List.{List, [], _++_, _∷_}
-use Prim.Native.Nat.{pred, ℕ}
+use Prim.Native.Nat.{_≤_, pred, ℕ}
+use native.Mathlib.Omega.{arith}
 use lib.Dec.{T, eqb, leb, le→leb, ltb, lt→ltb}
-use lib.ListN.{length}
+use lib.ListN.{getD, length}
 use borrow.Author.Tests.{eq-eqb}
 use Rattle.lists.specs.Lists.{all, any, member}
 use Rattle.lists.proofs.Members.{_∈_, all-in, member-in}
@@ -19,17 +21,20 @@ use Rattle.graph.proofs.Tree.{minimal-tree, minimal-unique, tree-out}
 use Rattle.checks.specs.Checks.{Check, Ended, answered, ended, firstUnmet, refused}
 use Rattle.checks.proofs.Checks.{firstUnmet-append, firstUnmet-met}
 use Rattle.checks.proofs.Ended.{checked-met, ended-met, ended-refused, ended-unmet, stops-only}
+use Rattle.costs.specs.Costs.{addedCost, costOf}
 use Rattle.costs.specs.Layouts.{keepsStates}
 use Rattle.costs.specs.Network.{Network}
 use Rattle.costs.proofs.Layouts.{keeps-same, layouts-mem}
 use Rattle.network_file.specs.File.{fileChecks, networkOf, sizesOf}
 use Rattle.network_file.proofs.Accepted.{Accepted, accepted}
 use Rattle.operations.specs.Operations.{check, costCall, costChecks, drawnChecks, graphIn, layoutsIn, orderCall, orderChecks, over, reachCall, someTree, treeChecks}
-use Rattle.operations.proofs.Costs.{cost-same}
+use Rattle.operations.proofs.Costs.{path-costs}
 use Rattle.operations.proofs.Exists.{size-listed, some-in, some-out}
 use Rattle.operations.proofs.Files.{formed}
 use Rattle.operations.proofs.Passing.{greatest-cost}
-use Rattle.demands.specs.Demands.{Drawn, Exists, NoTree, Passes, PathOfTree, Tree, numbers}
+use Rattle.charges.specs.Charges.{Split, addedAt, chargeCall, chargeChecks, chargeOf, chargedNodes}
+use Rattle.charges.proofs.Charges.{split, total-cost}
+use Rattle.demands.specs.Demands.{ChargeClaim, Drawn, Exists, NoTree, Passes, PathOfTree, Tree, numbers}
 
 module _ (f : List ℕ) (ok : Passes f) where
   abbrev g : Graph
@@ -57,11 +62,11 @@ module _ (f : List ℕ) (ok : Passes f) where
           λ t. layouts-mem net (formed f a) p .1 (minimal, keeps-same net rows p around within t),
           λ m. keeps-same net p rows within around (layouts-mem net (formed f a) p .0 m .1),
         );
-        priced = cost-same net rows p (tree-out g rows t .once) (tree-out g p (minimal-tree g (formed f a) p minimal) .once) around within;
+        priced = sym (path-costs f a rows p t found);
         greatest = greatest-cost f a rows t;
       }
 
-  -- Order and Cost
+  -- Order, Cost and the charge
 
   module _ (rows : List ℕ) (tree : Tree f rows) where
     abbrev path : List ℕ
@@ -76,20 +81,33 @@ module _ (f : List ℕ) (ok : Passes f) where
         T-true _ .0 (all-in (λ r. ltb r (length (g .firstEnds))) rows (λ q i. lt→ltb q (length (g .firstEnds)) (t .rows q i))) in
         rw (many, known, T-true (isTree g rows) .0 (tree .0), T-true (keepsStates net rows) .0 (tree .1)) refl
 
-    -- with room for the answer all checks are met
-    room-met : (c : Check) → c .met ≡ true → firstUnmet (fileChecks f ++ drawnChecks net rows ++ (c ∷ [])) ≡ none
-    unfolding firstUnmet
-    room-met c room =
-        firstUnmet-append (fileChecks f ++ drawnChecks net rows) (c ∷ []) (firstUnmet-append (fileChecks f) (drawnChecks net rows) ok ∙ drawn-met)
-        ∙ firstUnmet-met c [] room
+    -- with room for the answer, and whatever else is asked, all checks are met
+    room-met : (c : Check) (others : List Check) → c .met ≡ true → firstUnmet others ≡ none → firstUnmet (fileChecks f ++ drawnChecks net rows ++ (c ∷ others)) ≡ none
+    room-met c others room met =
+        firstUnmet-append (fileChecks f ++ drawnChecks net rows) (c ∷ others) (firstUnmet-append (fileChecks f) (drawnChecks net rows) ok ∙ drawn-met)
+        ∙ firstUnmet-met c others room ∙ met
+
+    charged : (criterion : ℕ) (buffer : List ℕ) → T (addedAt net criterion) → chargedNodes f ≤ length buffer → ChargeClaim f rows path criterion buffer
+    unfolding chargeCall chargeChecks firstUnmet path-of-tree
+    charged criterion buffer t room =
+        let total = addedCost net criterion rows in
+        let of-cost : total ≡ getD (costOf net path) criterion 0 = sym (total-cost net rows criterion t) ∙ ap (λ (v : List ℕ). getD v criterion 0) (path-of-tree rows (tree .0) .priced) in
+        let known = check 22 (addedAt net criterion) in
+        record {
+          charge = chargeOf total (chargedNodes f);
+          splits = subst (λ (x : ℕ). Split x (chargedNodes f) (chargeOf total (chargedNodes f))) of-cost (split total (chargedNodes f) (omega (arith, a .nodes-low)));
+          answers = ended-met (chargeChecks f rows criterion buffer) _ buffer _
+              (room-met (check 11 (leb (chargedNodes f) (length buffer))) (known ∷ []) (T-true _ .0 (le→leb _ _ room)) (firstUnmet-met known [] (T-true _ .0 t)));
+        }
 
     pub drawn : Drawn f rows path
-    unfolding orderCall costCall orderChecks costChecks path-of-tree
+    unfolding orderCall costCall orderChecks costChecks firstUnmet path-of-tree
     drawn = record {
-      orders = λ buffer room. ended-met (orderChecks f rows buffer) tt buffer _ (room-met (check 11 (leb (width g) (length buffer))) (T-true _ .0 (le→leb _ _ room)))
+      orders = λ buffer room. ended-met (orderChecks f rows buffer) tt buffer _ (room-met (check 11 (leb (width g) (length buffer))) [] (T-true _ .0 (le→leb _ _ room)) refl)
           ∙ ap (λ (p : List ℕ). record { outcome = answered tt; buffers = over p buffer }) (ap pathIn (pathOf-tree g (formed f a) rows (tree .0) .1));
-      prices = λ buffer room. ended-met (costChecks f rows buffer) tt buffer _ (room-met (check 11 (leb (sizesOf f .k) (length buffer))) (T-true _ .0 (le→leb _ _ room)))
+      prices = λ buffer room. ended-met (costChecks f rows buffer) tt buffer _ (room-met (check 11 (leb (sizesOf f .k) (length buffer))) [] (T-true _ .0 (le→leb _ _ room)) refl)
           ∙ ap (λ (v : List ℕ). record { outcome = answered tt; buffers = over v buffer }) (path-of-tree rows (tree .0) .priced);
+      charges = charged;
     }
 
   -- Whether there is a tree

@@ -4,27 +4,29 @@
 -- On every input an operation equals its definition: that is its contract. The demands speak of the definitions. (tests/tests/contracts.rs holds both
 -- tables to the contracts in src/.)
 --
--- | function      | definition                      | demands |
--- |---------------|---------------------------------|---------|
--- | network::open | network_file File openOf        | 1       |
--- | reach::reach  | operations Operations reachCall | 1, 2    |
--- | order::order  | operations Operations orderCall | 1, 2    |
--- | cost::cost    | operations Operations costCall  | 1, 2    |
--- | page::page    | operations Operations pageCall  | 1, 3    |
--- | pick::pick    | operations Operations pickCall  | 3       |
--- | front::front  | operations Operations frontCall | 1, 3    |
+-- | function       | definition                      | demands |
+-- |----------------|---------------------------------|---------|
+-- | network::open  | network_file File openOf        | 1       |
+-- | reach::reach   | operations Operations reachCall | 1, 2    |
+-- | order::order   | operations Operations orderCall | 1, 2    |
+-- | cost::cost     | operations Operations costCall  | 1, 2    |
+-- | charge::charge | charges Charges chargeCall      | 1, 2    |
+-- | page::page     | operations Operations pageCall  | 1, 3    |
+-- | pick::pick     | operations Operations pickCall  | 3       |
+-- | front::front   | operations Operations frontCall | 1, 3    |
 --
 -- The functions for Rust and C, each with the definition that it hands on:
 --
--- | function                 | definition                   | hands on  |
--- |--------------------------|------------------------------|-----------|
--- | planner_c::planner_open  | planner_c Calls plannerOpen  | openOf    |
--- | planner_c::planner_reach | planner_c Calls plannerReach | reachCall |
--- | planner_c::planner_order | planner_c Calls plannerOrder | orderCall |
--- | planner_c::planner_cost  | planner_c Calls plannerCost  | costCall  |
--- | planner_c::planner_page  | planner_c Calls plannerPage  | pageCall  |
--- | planner_c::planner_pick  | planner_c Calls plannerPick  | pickCall  |
--- | planner_c::planner_front | planner_c Calls plannerFront | frontCall |
+-- | function                  | definition                    | hands on   |
+-- |---------------------------|-------------------------------|------------|
+-- | planner_c::planner_open   | planner_c Calls plannerOpen   | openOf     |
+-- | planner_c::planner_reach  | planner_c Calls plannerReach  | reachCall  |
+-- | planner_c::planner_order  | planner_c Calls plannerOrder  | orderCall  |
+-- | planner_c::planner_cost   | planner_c Calls plannerCost   | costCall   |
+-- | planner_c::planner_charge | planner_c Calls plannerCharge | chargeCall |
+-- | planner_c::planner_page   | planner_c Calls plannerPage   | pageCall   |
+-- | planner_c::planner_pick   | planner_c Calls plannerPick   | pickCall   |
+-- | planner_c::planner_front  | planner_c Calls plannerFront  | frontCall  |
 use mathlib.Core.Path.{_≡_}
 use mathlib.Core.Bool.{false}
 use mathlib.Core.Logic.{_↔_}
@@ -47,6 +49,7 @@ use Rattle.network_file.specs.File.{fileChecks, networkOf, openOf, sizesOf}
 use Rattle.pages.specs.Pages.{capacity, pieces, restAfter}
 use Rattle.operations.specs.Operations.{Fronted, Paged, Reached, costCall, costChecks, frontCall, frontChecks, graphIn, layoutsIn, orderCall, orderChecks, over, pageCall, pageChecks, pickCall, reachCall}
 use Rattle.operations.specs.Runs.{Call, runOf}
+use Rattle.charges.specs.Charges.{Charge, Split, addedAt, chargeCall, chargeChecks, chargedNodes, chargesBy}
 use Rattle.operations.proofs.Runs.{Claim}
 
 -- the file meets all its checks
@@ -82,25 +85,28 @@ startNumbers [] = []
 startNumbers (r ∷ rs) = 8 ∷ 9 ∷ 10 ∷ 15 ∷ 13 ∷ []
 
 -- Open and Reach are lent nothing to write in
-pub record Demand1 (f rows buffer page start costs witnesses : List ℕ) : Type 0 where
+pub record Demand1 (f rows : List ℕ) (criterion : ℕ) (buffer page start costs witnesses : List ℕ) : Type 0 where
   pub opens : (e : ℕ) → (openOf f ≡ refused e) ↔ StopsAt (fileChecks f) e
   pub reaches : (e : ℕ) → (reachCall f ≡ refused e) ↔ StopsAt (fileChecks f) e
   pub orders : Refuses (orderChecks f rows buffer) (orderCall f rows buffer) buffer
   pub prices : Refuses (costChecks f rows buffer) (costCall f rows buffer) buffer
+  pub charges : Refuses (chargeChecks f rows criterion buffer) (chargeCall f rows criterion buffer) buffer
   pub pages : Refuses (pageChecks f page start) (pageCall f page start) page
   pub fronts : Refuses (frontChecks f costs witnesses) (frontCall f costs witnesses) (record { costs = costs; witnesses = witnesses })
   -- 12 exactly if there is no tree
   pub pages-none : (pageCall f page start .outcome ≡ refused 12) ↔ NoTree f
   pub fronts-none : (frontCall f costs witnesses .outcome ≡ refused 12) ↔ NoTree f
-  -- document 01's order, with 14 and 15 of document 02
+  -- document 01's order, with 14, 15 and 22 of document 02
   pub file-order : numbers (fileChecks f) ≡ fileNumbers
   pub order-order : numbers (orderChecks f rows buffer) ≡ fileNumbers ++ (8 ∷ 9 ∷ 10 ∷ 15 ∷ 11 ∷ [])
   pub cost-order : numbers (costChecks f rows buffer) ≡ fileNumbers ++ (8 ∷ 9 ∷ 10 ∷ 15 ∷ 11 ∷ [])
+  pub charge-order : numbers (chargeChecks f rows criterion buffer) ≡ fileNumbers ++ (8 ∷ 9 ∷ 10 ∷ 15 ∷ 11 ∷ 22 ∷ [])
   pub page-order : numbers (pageChecks f page start) ≡ fileNumbers ++ (12 ∷ 11 ∷ startNumbers start)
   pub front-order : numbers (frontChecks f costs witnesses) ≡ fileNumbers ++ (12 ∷ 11 ∷ [])
 
 -- Demand 2, of a file that passes: each listed layout is a tree of the network, written as its minimal path; each drawn tree is turned into the one
--- minimal path with exactly its rows; each cost is the defined one, over those rows, and at most 31,000,000.
+-- minimal path with exactly its rows; each cost is the defined one, over those rows, and at most 31,000,000; and the cost in an added criterion is split
+-- among nodes 2 to n without loss.
 
 -- a tree exists exactly if Reach's size is n and the must rows have no cycle
 pub record Exists (f : List ℕ) : Type 0 where
@@ -120,11 +126,18 @@ pub record PathOfTree (f rows : List ℕ) : Type 0 where
   pub priced : costOf (networkOf f) rows ≡ costOf (networkOf f) path
   pub greatest : (x : ℕ) → x ∈ costOf (networkOf f) rows → x ≤ 31000000
 
--- Order and Cost of a tree of the network, drawn in any sequence, with room for the answer
+-- the connection charge of a tree: what Cost gives in the criterion, split among nodes 2 to n
+pub record ChargeClaim (f rows path : List ℕ) (criterion : ℕ) (buffer : List ℕ) : Type 0 where
+  pub charge : Charge
+  pub splits : Split (getD (costOf (networkOf f) path) criterion 0) (chargedNodes f) charge
+  pub answers : chargeCall f rows criterion buffer ≡ record { outcome = answered charge; buffers = over (chargesBy charge (chargedNodes f)) buffer }
+
+-- Order, Cost and the charge in an added criterion of a tree of the network, drawn in any sequence, with room for the answer
 pub record Drawn (f rows path : List ℕ) : Type 0 where
   pub orders : (buffer : List ℕ) → width (graphIn f) ≤ length buffer → orderCall f rows buffer ≡ record { outcome = answered tt; buffers = over path buffer }
   pub prices : (buffer : List ℕ) → sizesOf f .k ≤ length buffer
       → costCall f rows buffer ≡ record { outcome = answered tt; buffers = over (costOf (networkOf f) path) buffer }
+  pub charges : (criterion : ℕ) (buffer : List ℕ) → T (addedAt (networkOf f) criterion) → chargedNodes f ≤ length buffer → ChargeClaim f rows path criterion buffer
 
 pub record Demand2 (f : List ℕ) : Type 0 where
   pub exists : Exists f

@@ -1,10 +1,10 @@
 -- Document 01's starred trials, as questions to the definitions of the operations, each with its answer, on network A's file; and trials
--- of document 02's row states (#102) and first witness (#101) on files with the same ends, of streets closed once (#103) on network C's, and of
--- comparison by cases (#105).
+-- of document 02's row states (#102) and first witness (#101) on files with the same ends, of streets closed once (#103) on network C's, of
+-- comparison by cases (#105), and of the connection charge (#109).
 use mathlib.Core.Path.{_≡_}
 use mathlib.Core.Bool.{Bool, false, true}
 use mathlib.Core.List.{List, [], _∷_, map}
-use Prim.Native.Nat.{suc, ℕ}
+use Prim.Native.Nat.{_-_, suc, ℕ}
 use lib.ListN.{length}
 use Rattle.lists.specs.Lists.{range}
 use Rattle.checks.specs.Checks.{Ended, Outcome, answered, refused}
@@ -13,6 +13,7 @@ use Rattle.costs.specs.Costs.{dominates, front}
 use Rattle.costs.specs.Network.{Network}
 use Rattle.network_file.specs.File.{Sizes, networkOf, openOf}
 use Rattle.operations.specs.Operations.{FrontTables, Fronted, Paged, Reached, costCall, frontCall, layoutsIn, orderCall, pageCall, reachCall}
+use Rattle.charges.specs.Charges.{Charge, chargeCall, chargeOf, chargesBy}
 use Rattle.examples.specs.Examples.{A, B, C}
 
 -- the 59 bytes of network A's file: the sizes, the kinds, and a line for each row
@@ -71,6 +72,8 @@ pub data Trial : Type 0 where
   order : List ℕ → List ℕ → Ended (Unit {0}) (List ℕ) → Trial
   -- Cost of them, likewise
   cost : List ℕ → List ℕ → Ended (Unit {0}) (List ℕ) → Trial
+  -- the connection charge of them in this criterion, into this buffer
+  charge : List ℕ → List ℕ → ℕ → List ℕ → Ended Charge (List ℕ) → Trial
   -- Page after this path, with a page of three places
   page : List ℕ → List ℕ → Ended Paged (List ℕ) → Trial
   -- Front with tables of three places each, which hold one row
@@ -78,6 +81,8 @@ pub data Trial : Type 0 where
   -- and of two vectors: dominance, and the cases after each number of components
   dominance : List ℕ → List ℕ → Bool → Trial
   cases : List ℕ → List ℕ → List Case → Trial
+  -- and of a total and a number of nodes: what nodes 2 to n bear
+  charges : ℕ → ℕ → List ℕ → Trial
 
 abbrev pub buffer : List ℕ
 buffer = 7 ∷ 8 ∷ 9 ∷ []
@@ -90,10 +95,12 @@ Right (fronts f l) = front (networkOf f) ≡ l
 Right (reached f o) = reachCall f ≡ o
 Right (order f rows e) = orderCall f rows buffer ≡ e
 Right (cost f rows e) = costCall f rows buffer ≡ e
+Right (charge f rows criterion buffer e) = chargeCall f rows criterion buffer ≡ e
 Right (page f start e) = pageCall f buffer start ≡ e
 Right (frontIn f e) = frontCall f buffer buffer ≡ e
 Right (dominance v w b) = dominates v w ≡ b
 Right (cases v w l) = map (λ i. caseAfter i v w) (range 0 (suc (length v))) ≡ l
+Right (charges total n l) = chargesBy (chargeOf total (n - 1)) (n - 1) ≡ l
 
 abbrev pub AllRight : List Trial → Type 0
 AllRight [] = Unit {0}
@@ -105,6 +112,9 @@ wrote after = record { outcome = answered tt; buffers = after }
 
 abbrev refusedBy : {A : Type 0} → ℕ → Ended A (List ℕ)
 refusedBy e = record { outcome = refused e; buffers = buffer }
+
+abbrev split : ℕ → ℕ → List ℕ → Ended Charge (List ℕ)
+split quotient remainder after = record { outcome = answered (record { quotient = quotient; remainder = remainder }); buffers = after }
 
 abbrev paged : ℕ → Bool → List ℕ → Ended Paged (List ℕ)
 paged count more after = record { outcome = answered (record { count = count; more = more }); buffers = after }
@@ -166,4 +176,18 @@ table =
     ∷ cases (7 ∷ 7 ∷ []) (7 ∷ 7 ∷ []) (soFarEqual ∷ soFarEqual ∷ soFarEqual ∷ [])
     ∷ cases (7 ∷ 7 ∷ []) (8 ∷ 6 ∷ []) (soFarEqual ∷ soFarBetter ∷ worseSomewhere ∷ [])
     ∷ cases (8 ∷ 6 ∷ []) (7 ∷ 7 ∷ []) (soFarEqual ∷ worseSomewhere ∷ worseSomewhere ∷ [])
+    -- document 02, #109: the sum of 9 split among nodes 2 and 3, and 8 with no remainder; criterion 1 is of another kind, 2 there is not
+    ∷ charge fileA (2 ∷ 0 ∷ []) 0 buffer (split 4 1 (5 ∷ 4 ∷ 9 ∷ []))
+    ∷ charge fileA (2 ∷ 3 ∷ []) 0 buffer (split 4 0 (4 ∷ 4 ∷ 9 ∷ []))
+    ∷ charge fileA (2 ∷ 3 ∷ []) 1 buffer (refusedBy 22)
+    ∷ charge fileA (2 ∷ 3 ∷ []) 2 buffer (refusedBy 22)
+    -- 11 is asked before it, and 10 and 15 before that
+    ∷ charge fileA (2 ∷ 3 ∷ []) 2 (7 ∷ []) (record { outcome = refused 11; buffers = 7 ∷ [] })
+    ∷ charge fileA (0 ∷ 1 ∷ []) 2 [] (record { outcome = refused 10; buffers = [] })
+    ∷ charge fileB (2 ∷ 1 ∷ []) 2 [] (record { outcome = refused 15; buffers = [] })
+    -- the first nodes bear one more
+    ∷ charges 11 5 (3 ∷ 3 ∷ 3 ∷ 2 ∷ [])
+    ∷ charges 12 5 (3 ∷ 3 ∷ 3 ∷ 3 ∷ [])
+    ∷ charges 2 5 (1 ∷ 1 ∷ 0 ∷ 0 ∷ [])
+    ∷ charges 7 2 (7 ∷ [])
     ∷ []

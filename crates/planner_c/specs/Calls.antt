@@ -10,6 +10,7 @@ use Rattle.lists.specs.Lists.{pick}
 use Rattle.checks.specs.Checks.{Ended, Outcome, answered, refused}
 use Rattle.network_file.specs.File.{Sizes, openOf}
 use Rattle.operations.specs.Operations.{FrontTables, Fronted, Paged, Reached, costCall, frontCall, orderCall, over, pageCall, pickCall, reachCall}
+use Rattle.charges.specs.Charges.{Charge, chargeCall}
 
 pub record Called (B : Type 0) : Type 0 where
   pub code : ℕ
@@ -62,6 +63,9 @@ sizeValues s = s .n ∷ s .m ∷ s .k ∷ []
 abbrev pub reachedValues : Reached → List ℕ
 reachedValues r = r .word ∷ r .size ∷ []
 
+abbrev pub chargeValues : Charge → List ℕ
+chargeValues c = c .quotient ∷ c .remainder ∷ []
+
 abbrev pub pagedValues : Paged → List ℕ
 pagedValues p = held (p .count) ∷ digit (p .more) ∷ []
 
@@ -83,6 +87,10 @@ plannerOrder file rows buffer = ending (orderCall file rows buffer)
 -- Cost: the vector stands in the buffer.
 unfoldable pub plannerCost : List ℕ → List ℕ → List ℕ → Called (List ℕ)
 plannerCost file rows buffer = ending (costCall file rows buffer)
+
+-- Connection charge: the charges stand in the buffer; the quotient and the remainder.
+unfoldable pub plannerCharge : List ℕ → List ℕ → ℕ → List ℕ → List ℕ → Called (Beside (List ℕ))
+plannerCharge file rows criterion buffer answer = answeringBeside 2 chargeValues (chargeCall file rows criterion buffer) buffer answer
 
 -- Pick: it returns the length of the part, of which as much as fits stands in the first places.
 unfoldable pub plannerPick : ℕ → List ℕ → ℕ → List ℕ → Called (List ℕ)

@@ -1,5 +1,6 @@
 //! The library's functions for Rust and C: the Rust tests in tests/ call them. A slice passes as a pointer and a length.
 //! What each call returns and leaves in its buffers stands in specs/Calls.antt.
+use charge::Charged;
 use cost::Costed;
 use front::FrontAnswer;
 use network::Opened;
@@ -9,7 +10,7 @@ use reach::ReachAnswer;
 ghost use mathlib.Core.Path.{_≡_};
 ghost use lib.ListN.{length, take};
 ghost use Rattle.operations.specs.Operations.{over};
-ghost use Rattle.planner_c.specs.Calls.{digit, held, plannerCost, plannerFront, plannerOpen, plannerOrder, plannerPage, plannerPick, plannerReach};
+ghost use Rattle.planner_c.specs.Calls.{digit, held, plannerCharge, plannerCost, plannerFront, plannerOpen, plannerOrder, plannerPage, plannerPick, plannerReach};
 
 /// Open: 0 with n, m and k in the first three places of the answer; the refusal's number; or 255 where the answer has
 /// under three places.
@@ -73,6 +74,35 @@ pub extern "C" fn planner_cost(file: &[u8], rows: &[u16], buffer: &mut [u32]) ->
     match costed {
         Costed::Vector => 0,
         Costed::Refused(number) => number as u32,
+    }
+}
+
+/// Connection charge: 0 with the charges of nodes 2 to n in the first n - 1 places of the buffer, and the quotient and the
+/// remainder in the first two places of the answer; the refusal's number; or 255 where the answer has under two places.
+#[no_mangle]
+pub extern "C" fn planner_charge(
+    file: &[u8],
+    rows: &[u16],
+    criterion: u32,
+    buffer: &mut [u32],
+    answer: &mut [u32],
+) -> u32
+    ensures { λ r. ⌜ record { code = r; buffers = record { lent = now (buffer .exit); answer = now (answer .exit) } } ≡ plannerCharge (now (file .entry)) (now (rows .entry)) criterion (now (buffer .entry)) (now (answer .entry)) ⌝ }
+{
+    if answer.len() < 2 {
+        return 255;
+    }
+    let charged = charge::charge(file, rows, criterion, buffer);
+    match charged {
+        Charged::Split {
+            quotient,
+            remainder,
+        } => {
+            answer[0] = quotient;
+            answer[1] = remainder;
+            0
+        }
+        Charged::Refused(number) => number as u32,
     }
 }
 
