@@ -176,7 +176,7 @@ table =
     ∷ cases (7 ∷ 7 ∷ []) (7 ∷ 7 ∷ []) (soFarEqual ∷ soFarEqual ∷ soFarEqual ∷ [])
     ∷ cases (7 ∷ 7 ∷ []) (8 ∷ 6 ∷ []) (soFarEqual ∷ soFarBetter ∷ worseSomewhere ∷ [])
     ∷ cases (8 ∷ 6 ∷ []) (7 ∷ 7 ∷ []) (soFarEqual ∷ worseSomewhere ∷ worseSomewhere ∷ [])
-    -- document 02, #109: the sum of 9 split among nodes 2 and 3, and 8 with no remainder; criterion 1 is of another kind, 2 there is not
+    -- document 02, #109: the sum of 9 split among nodes 2 and 3, and 8 with no remainder; criterion 1 is of another kind, and there is no 2
     ∷ charge fileA (2 ∷ 0 ∷ []) 0 buffer (split 4 1 (5 ∷ 4 ∷ 9 ∷ []))
     ∷ charge fileA (2 ∷ 3 ∷ []) 0 buffer (split 4 0 (4 ∷ 4 ∷ 9 ∷ []))
     ∷ charge fileA (2 ∷ 3 ∷ []) 1 buffer (refusedBy 22)
