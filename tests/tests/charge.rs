@@ -61,7 +61,7 @@ impl Call<'_> {
     }
 }
 
-/// The charges with exactly enough places, or with so many; with them quotient and remainder.
+/// A buffer of so many places with the charges, and the quotient and the remainder.
 fn charge(
     network: &Network,
     rows: &[u16],
@@ -287,6 +287,7 @@ fn seeded_calls() {
     for code in [0, 1, 2, 3, 4, 5, 6, 7, 14, 8, 9, 10, 15, 11, 22, 255] {
         assert!(codes[code] >= ENOUGH, "too few: {code}");
     }
+    // every shape came up, and often
     assert_eq!(counts.len(), 18);
     assert!(counts.values().all(|&count| count >= ENOUGH));
 }
