@@ -1,8 +1,7 @@
 //! Order: the minimal path of a drawn spanning tree.
 ghost use mathlib.Core.Path.{_≡_};
-ghost use Prim.Native.Nat.{_≤_};
 ghost use lib.ListN.{length, take};
-ghost use Rattle.operations.specs.Operations.{orderCall, over};
+ghost use Rattle.operations.specs.Operations.{orderCall};
 ghost use Rattle.paths.specs.Path.{keysOf, rowsIn};
 ghost use Rattle.order.specs.Answers.{orderedOf};
 use paths::Path;
@@ -20,18 +19,6 @@ fn rows_of(path: Path) -> [u16; 31]
     path.rows
 }
 
-// Writes the places over the first ones of the buffer.
-fn put(buffer: &mut [u16], places: &[u16])
-    requires { ⌜ length (now places) ≤ length (now buffer) ⌝ }
-    ensures { λ _. ⌜ now (buffer .exit) ≡ over (now (places .entry)) (now (buffer .entry)) ⌝ }
-{
-    let mut i: usize = 0;
-    while i < places.len() {
-        buffer[i] = places[i];
-        i += 1;
-    }
-}
-
 /// Order: the minimal path of the drawn rows in the first n - 1 places of the buffer.
 pub fn order(file: &[u8], rows: &[u16], buffer: &mut [u16]) -> Ordered
     ensures { λ r. ⌜ record { outcome = orderedOf r; buffers = now (buffer .exit) } ≡ orderCall (now (file .entry)) (now (rows .entry)) (now (buffer .entry)) ⌝ }
@@ -47,6 +34,6 @@ pub fn order(file: &[u8], rows: &[u16], buffer: &mut [u16]) -> Ordered
     }
     let places = rows_of(drawn.path);
     let path = &places[..width];
-    put(buffer, path);
+    copies::copy_rows(buffer, 0, path, path.len());
     Ordered::Path
 }

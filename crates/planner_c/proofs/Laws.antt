@@ -1,15 +1,17 @@
 -- Laws of the calls: places written one after the other, and what a call comes to by its outcome.
-use Prim.Native.Nat.{_+_, _<_, _≤_, ℕ}
-use mathlib.Core.Path.{_≡_, _∙_, ap, sym}
+use Prim.Native.Nat.{_<_, _≤_, ℕ}
+use mathlib.Core.Path.{_≡_, _∙_, ap}
 use mathlib.Core.Bool.{and-false}
 use mathlib.Core.List.{List, [], _∷_}
-use lib.ListN.{getD, length, length-set, set, take}
-use lib.Seq.{take-all, take-nil}
+use lib.ListN.{length, set}
+use lib.Seq.{take-nil}
 use native.Mathlib.Omega.{arith}
 use borrow.Author.Tests.{le-ltb, lt-leb, lt-ltb}
 use Rattle.checks.specs.Checks.{Ended, Outcome, answered, refused}
 use Rattle.operations.specs.Operations.{over, pickCall}
 use Rattle.operations.proofs.Over.{over-next}
+use Rattle.copies.specs.Copies.{copied}
+use Rattle.copies.proofs.Copies.{copied-first}
 use Rattle.planner_c.specs.Calls.{answering, answeringBeside, ending, plannerPick}
 
 pub over-two : (answer : List ℕ) (x y : ℕ) → 2 ≤ length answer → set (set answer 0 x) 1 y ≡ over (x ∷ y ∷ []) answer
@@ -24,42 +26,14 @@ over-three answer x y z enough =
 pub two-same : {x x′ y y′ : ℕ} → x ≡ x′ → y ≡ y′ → x′ ∷ y′ ∷ [] ≡ x ∷ y ∷ []
 two-same p q = rw (p, q)
 
--- a part that is being copied: the first i places are there
-pub record Copied (part before out : List ℕ) (i : ℕ) : Type 0 where
-  pub some : i ≤ length part
-  pub fits : i ≤ length before
-  pub same : length out ≡ length before
-  pub holds : out ≡ over (take i part) before
-
--- a place more
-pub copied-next : (part before out : List ℕ) (i : ℕ) → Copied part before out i → i < length part → i < length out → Copied part before (set out i (getD part i 0)) (i + 1)
-copied-next part before out i c some fits =
-    record {
-      some = omega arith;
-      fits = omega (arith, c .same);
-      same = length-set out i _ ∙ c .same;
-      holds = ap (λ l. set l i (getD part i 0)) (c .holds) ∙ over-next part before i some (omega (arith, c .same));
-    }
-
--- all that fits
-pub copied-full : (part before out : List ℕ) (i : ℕ) → Copied part before out i → length out ≤ i → out ≡ over (take (length before) part) before
-copied-full part before out i c full =
-    let last : i ≡ length before = omega (arith, c .same, c .fits) in
-    c .holds ∙ ap (λ k. over (take k part) before) last
-
--- all of the part
-pub copied-whole : (part before out : List ℕ) (i : ℕ) → Copied part before out i → length part ≤ i → out ≡ over (take (length before) part) before
-copied-whole part before out i c whole =
-    c .holds ∙ ap (λ l. over l before) (take-all i part whole ∙ sym (take-all (length before) part (omega (arith, c .fits))))
-
 -- no node number of 256 or more is in range
 pub pick-none : (n : ℕ) (page : List ℕ) (t : ℕ) (out : List ℕ) → 255 < n → record { code = 0; buffers = out } ≡ plannerPick n page t out
 unfolding plannerPick pickCall
 pick-none n page t out high = simp (lt-leb n 32 (omega arith), and-false, take-nil)
 
-pub pick-copied : (n : ℕ) (page : List ℕ) (t : ℕ) (out part after : List ℕ) → part ≡ pickCall n page t → after ≡ over (take (length out) part) out → record { code = length part; buffers = after } ≡ plannerPick n page t out
+pub pick-copied : (n : ℕ) (page : List ℕ) (t : ℕ) (out part after : List ℕ) → part ≡ pickCall n page t → after ≡ copied out 0 part (length part) → record { code = length part; buffers = after } ≡ plannerPick n page t out
 unfolding plannerPick
-pick-copied n page t out part after same copied = rw (copied, same)
+pick-copied n page t out part after same e = rw (e ∙ copied-first out part, same)
 
 module _ {A : Type 0} (values : A → List ℕ) (outcome : Outcome A) (answer : List ℕ) where
   pub answering-short : (places : ℕ) → length answer < places → record { code = 255; buffers = answer } ≡ answering places values outcome answer

@@ -8,8 +8,6 @@ use order::Ordered;
 use page::PageAnswer;
 use reach::ReachAnswer;
 ghost use mathlib.Core.Path.{_≡_};
-ghost use lib.ListN.{length, take};
-ghost use Rattle.operations.specs.Operations.{over};
 ghost use Rattle.planner_c.specs.Calls.{digit, held, plannerCharge, plannerCost, plannerFront, plannerOpen, plannerOrder, plannerPage, plannerPick, plannerReach};
 
 /// Open: 0 with n, m and k in the first three places of the answer; the refusal's number; or 255 where the answer has
@@ -106,17 +104,6 @@ pub extern "C" fn planner_charge(
     }
 }
 
-// As much of the part as fits, in the first places.
-fn copy(part: &[u16], out: &mut [u16])
-    ensures { λ r. ⌜ now (out .exit) ≡ over (take (length (now (out .entry))) (now (part .entry))) (now (out .entry)) ⌝ }
-{
-    let mut i: usize = 0;
-    while i < out.len() && i < part.len() {
-        out[i] = part[i];
-        i += 1;
-    }
-}
-
 /// Pick: the length of tree t's part of the page, of which as much as fits is copied to the first places of out.
 #[no_mangle]
 pub extern "C" fn planner_pick(n: u32, page: &[u16], t: u64, out: &mut [u16]) -> u64
@@ -127,7 +114,7 @@ pub extern "C" fn planner_pick(n: u32, page: &[u16], t: u64, out: &mut [u16]) ->
         return 0;
     }
     let part = pick::pick(n as u8, page, t as usize);
-    copy(part, out);
+    copies::copy_rows(out, 0, part, part.len());
     part.len() as u64
 }
 

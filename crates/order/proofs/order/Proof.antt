@@ -1,13 +1,11 @@
--- Order by the number that `drawn` answers; the part that is written holds the path's rows (`part`).
+-- Order by the number that `drawn` answers; as many places are written as rows are drawn (`sized`).
 use mathlib.Core.Path.{_∙_, _≡_, ap, sym}
 use mathlib.Core.List.{List}
 use Prim.Native.Nat.{ℕ}
 use native.Mathlib.Omega.{arith}
 use lib.ListN.{length, length-take, take}
 use Rattle.checks.specs.Checks.{answered}
-use Rattle.operations.specs.Operations.{over}
-use Rattle.paths.specs.Path.{rowsIn}
-use Rattle.order.proofs.Laws.{order-path, order-refused, order-short, path-length, path-part}
+use Rattle.order.proofs.Laws.{order-path, order-refused, order-short, path-copied, path-length}
 use borrow.Author.Needs.{needs}
 use Rattle.order.proofs.order.Statement.{statement}
 use Rattle.order.proofs.order.Tie as tie
@@ -30,10 +28,7 @@ called c = c .before .before .before .before .before .before .before
 abbrev written : tie.After-rows-of → List ℕ
 written c = take (length (called c .args .rows .now)) (c .rows-of .result)
 
--- what is written are the path's rows, as many as are drawn
-part : (c : tie.After-rows-of) → written c ≡ rowsIn (c .before .before .before .drawn .result .path)
-part c = path-part _ _ _ (c .before .before .before .drawn .ensures) (c .before .before .if1 .left) _ (c .rows-of .ensures)
-
+-- as many as are drawn
 sized : (c : tie.After-rows-of) → length (written c) ≡ length (called c .args .rows .now)
 sized c = path-length _ _ _ (c .before .before .before .drawn .ensures) (c .before .before .if1 .left) _ (c .rows-of .ensures)
 
@@ -43,8 +38,8 @@ array-share-prefix-places c = omega (arith, sized c, length-take (length (called
 slice-aggregate-path : tie.Need-slice-aggregate-path
 slice-aggregate-path c = sym (sized (c .before))
 
-put-requires : tie.Need-put-requires
-put-requires c κs = omega (arith, sized (c .before .before), c .before .before .before .if2 .left)
+copy-rows-requires : tie.Need-copy-rows-requires
+copy-rows-requires c κs = search needs
 
 same-length : tie.Need-same-length
 same-length c = search needs
@@ -53,7 +48,7 @@ returns-3 : tie.Need-returns-3
 returns-3 c =
     let at = c .before .before .before .before .before in
     ap (λ (l : List ℕ). record { outcome = answered tt; buffers = l })
-    (c .before .before .put .ensures ∙ ap (λ (l : List ℕ). over l (called at .args .buffer .now)) (part at))
+    (path-copied _ _ _ (at .before .before .before .drawn .ensures) (at .before .before .if1 .left) _ (at .rows-of .ensures) _ _ (at .before .if2 .left) (c .before .before .copy-rows .ensures))
     ∙ order-path _ _ _ (at .before .before .before .drawn .ensures) _ (at .before .before .if1 .left) (at .before .if2 .left)
 
 pub order-spec : {M : Type 1} → statement M
@@ -66,6 +61,6 @@ order-spec =
     rows-of-requires
     array-share-prefix-places
     slice-aggregate-path
-    put-requires
+    copy-rows-requires
     same-length
     returns-3)

@@ -13,8 +13,8 @@ cast-pick c = search needs
 pick-requires : tie.Need-pick-requires
 pick-requires c κs = search needs
 
-copy-requires : tie.Need-copy-requires
-copy-requires c κs = search needs
+copy-rows-requires : tie.Need-copy-rows-requires
+copy-rows-requires c κs = search needs
 
 same-length : tie.Need-same-length
 same-length c = search needs
@@ -22,8 +22,8 @@ same-length c = search needs
 returns-2 : tie.Need-returns-2
 returns-2 c =
     let at = c .before .before in
-    pick-copied _ _ _ _ _ _ (at .before .before .pick .ensures) (at .copy .ensures)
+    pick-copied _ _ _ _ _ _ (at .before .before .pick .ensures) (at .copy-rows .ensures)
 
 pub planner-pick-spec : {M : Type 1} → statement M
 planner-pick-spec =
-    tie.close (tie.spec returns cast-pick pick-requires copy-requires same-length returns-2)
+    tie.close (tie.spec returns cast-pick pick-requires copy-rows-requires same-length returns-2)
