@@ -1,6 +1,6 @@
-//! Document 01's operations but Open, with document 02's row states (#102) and connection charge (#109): the number of the check that refuses a call,
-//! or what the call writes in the first places of what it is lent. A buffer is told by its number of places; its content
-//! has no say.
+//! Document 01's operations but Open, with document 02's row states (#102) and connection charge (#109): the number of the
+//! check that refuses a call, or what the call writes in the first places of what it is lent. A buffer is told by its
+//! number of places; its content has no say.
 
 use crate::costs::{self, Vector};
 use crate::file::Network;
@@ -76,7 +76,7 @@ pub fn charge(file: &[u8], rows: &[u16], criterion: u32, places: usize) -> Resul
 
 /// Each node pays its share of what the nodes before it have left, rounded up, so that the first ones bear one more; the
 /// quotient is the least charge, and the remainder is how many are above it.
-pub fn split(total: u32, nodes: u32) -> Charged {
+fn split(total: u32, nodes: u32) -> Charged {
     let mut left = total;
     let pay = |behind: u32| {
         let share = left.div_ceil(behind);
