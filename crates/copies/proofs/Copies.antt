@@ -1,12 +1,13 @@
 -- What the loop copies fits both tables (`room-least`, `copied-is`); where all fits, all is copied (`copied-all`); at the first places stands as much as fits
 -- (`copied-first`).
-use mathlib.Core.Path.{_∙_, _≡_, ap, refl}
-use mathlib.Core.List.{List, [], _++_, _∷_}
-use Prim.Native.Nat.{_+_, _-_, _≤_, min, suc, zero, ℕ}
+use mathlib.Core.Path.{_∙_, _≡_, ap}
+use mathlib.Core.List.{List, _++_}
+use Prim.Native.Nat.{_+_, _-_, _≤_, min, ℕ}
 use native.Mathlib.Nat.{zero-add}
 use native.Mathlib.Omega.{arith}
 use lib.ListN.{drop, length, length-take, take}
 use lib.Seq.{paste}
+use Rattle.lists.proofs.Ascending.{take-min}
 use Rattle.copies.specs.Copies.{copied, room}
 
 pub room-none : (table at places n : ℕ) → table ≤ at → 0 ≡ room table at places n
@@ -31,13 +32,8 @@ copied-all table at places n fits there =
     let all : min n (min (length places) (length table - at)) ≡ n = omega arith in
     ap (paste table at places) all
 
-take-again : (n : ℕ) (l : List ℕ) → take (length (take n l)) l ≡ take n l
-take-again zero l = refl
-take-again (suc n) [] = refl
-take-again (suc n) (x ∷ l) = ap (λ (k : List ℕ). x ∷ k) (take-again n l)
-
 pub copied-first : (table places : List ℕ) → copied table 0 places (length places) ≡ take (length table) places ++ drop (length (take (length table) places)) table
 unfolding copied room
 copied-first table places =
-    let many : min (length places) (min (length places) (length table - 0)) ≡ length (take (length table) places) = omega (arith, length-take (length table) places) in
-    ap (paste table 0 places) many ∙ (rw (zero-add (length (take (length table) places)), take-again (length table) places))
+    let many : min (length places) (min (length places) (length table - 0)) ≡ min (length table) (length places) = omega arith in
+    ap (paste table 0 places) many ∙ (rw (zero-add (min (length table) (length places)), take-min (length table) places, length-take (length table) places))

@@ -7,10 +7,10 @@ use mathlib.Core.Option.{none}
 use Prim.Native.Nat.{_*_, _<_, _≤_, min, ℕ}
 use native.Mathlib.Omega.{arith}
 use lib.Dec.{T, leb, leb→le, le→leb}
-use lib.ListN.{drop, getD, length, length-take, take}
-use lib.Seq.{drop-at, getD-take, length-take-le, take-length, take-take}
+use lib.ListN.{drop, getD, length, take}
+use lib.Seq.{drop-at, getD-take, length-take-le}
 use Rattle.lists.specs.Lists.{both}
-use Rattle.lists.proofs.Ascending.{getD-mem}
+use Rattle.lists.proofs.Ascending.{getD-mem, take-min}
 use Rattle.lists.proofs.Maps.{map-at}
 use Rattle.lists.proofs.Members.{_∈_, take-out}
 use Rattle.lists.proofs.Orders.{ascending-distinct}
@@ -63,9 +63,7 @@ module _ (f : List ℕ) (ok : Passes f) where
 
 -- as many as there are, where more would fit
 take-least : (n : ℕ) (l : List (List ℕ)) → take (min (length l) n) l ≡ take n l
-take-least n l =
-    let e : length (take n l) ≡ min (length l) n = length-take n l ∙ omega arith in
-    ap (λ (m : ℕ). take m l) (sym e) ∙ sym (take-take (length (take n l)) n l (omega arith)) ∙ take-length (take n l)
+take-least n l = let e : min (length l) n ≡ min n (length l) = omega arith in ap (λ (m : ℕ). take m l) e ∙ take-min n l
 
 module _ (f : List ℕ) (ok : Passes f) (tree : T (someTree (layoutsIn f))) where
   abbrev w : Network

@@ -14,7 +14,7 @@ use lib.Dec.{T, T-not, eqb, eqb→eq, not-T}
 use lib.ListN.{drop, getD, getElem?, length, length-take, take, take-append-drop}
 use lib.Seq.{append-snoc, getD-take, length-take-le, split-at, take-all, take-length, take-suc, take-take}
 use Rattle.lists.specs.Lists.{member}
-use Rattle.lists.proofs.Ascending.{at-getD}
+use Rattle.lists.proofs.Ascending.{at-getD, take-min}
 use Rattle.lists.proofs.Distinct.{Distinct, filled}
 use Rattle.lists.proofs.Members.{_∈_, _⊆_, length-snoc, member-in, member-out}
 use Rattle.lists.proofs.Tests.{decide, eq→eqb, pick-elim}
@@ -47,7 +47,6 @@ use Rattle.grow.specs.Musts.{firstOf}
 use Rattle.grow.proofs.Grow.{entered-after, entered-step, fresh-ready, open-past, ready-after, ready-back, ready-bound, step-kept}
 use Rattle.grow.proofs.Musts.{GrownWith, Mustered, grow-accepts, grow-full, grown-ends}
 use Rattle.walk.specs.Walk.{afterFrom, afterOf, skipBy, skipOf}
-use Rattle.walk.proofs.Laws.{take-min}
 
 -- What the walk is given fits the graph, which has at most 32 nodes and 65536 rows: `nodes` is the word of its nodes, and a path has `width` steps.
 pub record Fitted (g : Graph) (nb : List ℕ) (limit nodes width : ℕ) : Type 0 where

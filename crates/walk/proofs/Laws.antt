@@ -1,5 +1,5 @@
 -- What each way through the code does to what is computed: a step is skipped or not, and the whole answer equals what the rest of the walk back answers.
-use mathlib.Core.Path.{_∙_, _≡_, ap, refl, sym}
+use mathlib.Core.Path.{_≡_, refl}
 use mathlib.Core.Bool.{false, true}
 use mathlib.Core.Option.{Option, none, some}
 use mathlib.Core.List.{List}
@@ -7,8 +7,8 @@ use Prim.Native.Nat.{_%_, _-_, _<_, _≤_, min, suc, zero, ℕ}
 use native.Mathlib.Nat.{mod-eq-of-lt}
 use native.Mathlib.Omega.{arith}
 use lib.Bits.{bitOr}
-use lib.ListN.{getD, length, length-take, take}
-use lib.Seq.{take-length, take-take}
+use lib.ListN.{getD, length, take}
+use Rattle.lists.proofs.Ascending.{take-min}
 use Rattle.graph.specs.Paths.{Key}
 use Rattle.states.specs.States.{mustRow}
 use Rattle.words.specs.Words.{bit, minus}
@@ -18,11 +18,6 @@ use Rattle.grow.specs.Grow.{freshAfter, openPast}
 use Rattle.grow.specs.Musts.{growWith}
 use Rattle.walk.specs.Walk.{afterFrom, afterOf, nextOf, skipBy, skipOf}
 use Rattle.walk.specs.declared.Next.{Next}
-
-pub take-min : (n : ℕ) (l : List Key) → take (min n (length l)) l ≡ take n l
-take-min n l =
-    let e = length-take n l in
-    ap (λ (m : ℕ). take m l) (sym e) ∙ sym (take-take (length (take n l)) n l (omega arith)) ∙ take-length (take n l)
 
 module _ (nb firsts seconds mustNb mustFirsts mustSeconds : List ℕ) (limit plant : ℕ) where
   -- One step
