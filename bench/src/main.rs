@@ -1,17 +1,16 @@
-//! Measures the proved library beside plain Rust, both built for release, in one run, and prints a table. It tests nothing
-//! but that both list the same trees.
+//! Measures the proved library beside plain Rust, both built for release, in one run, and prints tables; with the argument
+//! 'front' the last of them only. It tests nothing but that both list the same trees and have the same fronts.
 
-mod front;
 mod networks;
-mod walk;
+mod seconds;
 
 use std::hint::black_box;
 use std::time::{Duration, Instant};
 
 use planner_tests::ffi;
 use planner_tests::file::Network;
-
-use walk::Graph;
+use planner_tests::walk::Graph;
+use planner_tests::walked;
 
 /// The trees of a page, as treelist has them.
 const TREES_A_PAGE: usize = 64;
@@ -151,11 +150,11 @@ fn compare_fronts(name: &str, network: &Network) {
                 0
             )
         },
-        || drop(black_box(front::front(network))),
+        || drop(black_box(walked::front(network))),
     );
-    let expected: Vec<u32> = front::front(network)
-        .iter()
-        .flat_map(|(v, _)| v[..k].to_vec())
+    let expected: Vec<u32> = walked::front(network)
+        .into_iter()
+        .flat_map(|(vector, _)| vector)
         .collect();
     assert_eq!(
         costs[..answer[0] as usize * k],
@@ -171,6 +170,24 @@ fn compare_fronts(name: &str, network: &Network) {
 }
 
 fn main() {
+    let arguments: Vec<String> = std::env::args().skip(1).collect();
+    let words: Vec<&str> = arguments.iter().map(String::as_str).collect();
+    match words[..] {
+        [] => {
+            tables();
+            println!();
+            seconds::table();
+        }
+        ["front"] => seconds::table(),
+        ["front", line, way] => seconds::measure(line, way),
+        _ => {
+            eprintln!("usage: bench/run [front]");
+            std::process::exit(2);
+        }
+    }
+}
+
+fn tables() {
     println!("Page: the whole list in pages of {TREES_A_PAGE} trees, nanoseconds a tree");
     println!(
         "{:36} {:>9} {:>12} {:>12} {:>8}",

@@ -6,6 +6,9 @@ use crate::file::{Network, Row};
 
 pub type Vector = Vec<u32>;
 
+/// A vector of the front, and the first tree of the list that has it.
+pub type Entry = (Vector, Vec<u16>);
+
 /// The vector of a spanning tree.
 pub fn vector(network: &Network, tree: &[u16]) -> Vector {
     let rows: Vec<&Row> = tree.iter().map(|&r| &network.rows[r as usize]).collect();

@@ -1,6 +1,7 @@
 //! What the tests of the proved library share: the calls, a generator of numbers, network files, what damages them,
 //! networks and drawn rows, lent buffers, the contracts in src/ as text, and independent code for document 01 in plain
-//! Rust: `reading`, `trees`, `costs` and `operations`.
+//! Rust: `reading`, `trees`, `costs` and `operations`; and for larger networks the front by a walk (`walk`, `walked`) and
+//! by a search (`search`), and the networks of the study of that search (`study`).
 
 pub mod contracts;
 pub mod costs;
@@ -12,4 +13,8 @@ pub mod lent;
 pub mod operations;
 pub mod reading;
 pub mod rng;
+pub mod search;
+pub mod study;
 pub mod trees;
+pub mod walk;
+pub mod walked;

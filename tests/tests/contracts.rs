@@ -100,22 +100,37 @@ fn the_second_table_hands_on_the_first() {
     }
 }
 
-/// Every public function of every crate is for all inputs, and promises an equation.
+/// Functions of the search for the front whose answer is left open: which tree is found in a box, and so which vector stands
+/// for equal ones, is the search's own choice. They promise what the answer tells, by a definition of the crate `completions`.
+const BY_WHAT_IT_TELLS: [(&str, &str, &str); 3] = [
+    ("find", "find", "Answers"),
+    ("least", "least", "Lowered"),
+    ("branch", "opens", "Tells"),
+];
+
+/// Every public function of every crate is for all inputs, and promises an equation, or what its answer tells.
 #[test]
 fn no_public_function_requires_anything() {
     let mut seen = 0;
+    let mut open = 0;
     for (crate_name, source) in sources() {
         for f in functions(&source) {
             assert!(f.requires.is_empty(), "{crate_name}::{} requires", f.name);
+            let said = BY_WHAT_IT_TELLS
+                .iter()
+                .find(|row| (row.0, row.1) == (crate_name.as_str(), f.name.as_str()))
+                .map_or("≡", |row| row.2);
             assert!(
-                f.ensures.iter().any(|clause| clause.contains('≡')),
-                "{crate_name}::{} does not say its outcome by an equation",
+                f.ensures.iter().any(|clause| clause.contains(said)),
+                "{crate_name}::{} does not say its outcome by {said}",
                 f.name
             );
+            open += usize::from(said != "≡");
             seen += 1;
         }
     }
     assert!(seen > 50, "{seen} public functions were read");
+    assert_eq!(open, BY_WHAT_IT_TELLS.len());
 }
 
 /// The test itself can fail: each of these changes of a contract is noticed.

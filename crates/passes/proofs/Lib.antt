@@ -3,3 +3,4 @@ pub mod Flat
 pub mod KnownTrees
 pub mod Passes
 pub mod Places
+pub mod Written

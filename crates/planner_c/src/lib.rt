@@ -2,7 +2,7 @@
 //! What each call returns and leaves in its buffers stands in specs/Calls.antt.
 use charge::Charged;
 use cost::Costed;
-use front::FrontAnswer;
+use fronted::FrontAnswer;
 use network::Opened;
 use order::Ordered;
 use page::PageAnswer;

@@ -30,9 +30,9 @@ use Rattle.operations.proofs.Files.{node-count}
 use Rattle.page.specs.Answers.{pagedOf}
 use Rattle.page.specs.declared.PageAnswer.{PageAnswer}
 use Rattle.page.specs.declared.PageAnswer.the-variants as paged
-use Rattle.front.specs.Answers.{frontedOf}
-use Rattle.front.specs.declared.FrontAnswer.{FrontAnswer}
-use Rattle.front.specs.declared.FrontAnswer.the-variants as fronted
+use Rattle.fronted.specs.Answers.{frontedOf}
+use Rattle.fronted.specs.declared.FrontAnswer.{FrontAnswer}
+use Rattle.fronted.specs.declared.FrontAnswer.the-variants as fronted
 use Rattle.treelist.specs.Given.{Given}
 use Rattle.treelist.proofs.Run.{More, Run, all-written, more-left, never-refused}
 

@@ -9,7 +9,7 @@ ghost use Rattle.page.specs.Answers.{pagedOf};
 ghost use Rattle.treelist.specs.Given.{Given};
 use ends::Rows;
 use fields::Header;
-use front::FrontAnswer;
+use fronted::FrontAnswer;
 use libc::STDIN_FILENO;
 use libc::STDOUT_FILENO;
 use network::Opened;

@@ -1,6 +1,6 @@
 -- What the borrow checker leaves to prove of planner_front.
 use mathlib.Core.Path.{ap}
-use Rattle.front.specs.Answers.{frontedOf}
+use Rattle.fronted.specs.Answers.{frontedOf}
 use Rattle.planner_c.specs.Calls.{frontedValues, plannerFront}
 use Rattle.planner_c.proofs.Laws.{beside-refused, beside-short, beside-two, two-same}
 use borrow.Author.Needs.{needs}

@@ -1,0 +1,3 @@
+pub mod Laws
+pub mod Comes
+pub mod Question

@@ -1,0 +1,17 @@
+pub mod Lighter
+pub mod Greedy
+pub mod Shares
+pub mod Coming
+pub mod Boxes
+pub mod Filters
+pub mod Rows
+pub mod Search
+pub mod Begins
+pub mod Labels
+pub mod Splits
+pub mod Beside
+pub mod Find
+pub mod Weights
+pub mod Witness
+pub mod Least
+pub mod NextRow

@@ -1,0 +1,4 @@
+pub mod Streets
+pub mod Turns
+pub mod Sorted
+pub mod Laws

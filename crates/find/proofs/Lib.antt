@@ -1,0 +1,3 @@
+pub mod Sifting
+pub mod Judging
+pub mod Turns

@@ -1,5 +1,0 @@
-pub mod Turns
-pub mod Tables
-pub mod Vectors
-pub mod Given
-pub mod Calls

@@ -1,0 +1,4 @@
+pub mod Compared
+pub mod Known
+pub mod Regions
+pub mod Vectors

@@ -1,0 +1,3 @@
+pub mod Seeking
+pub mod Tables
+pub mod Given

@@ -1,0 +1,4 @@
+pub mod Turns
+pub mod Tables
+pub mod Vectors
+pub mod Given
