@@ -46,7 +46,7 @@ use Rattle.states.proofs.With.{with-mem, with-part}
 use Rattle.operations.proofs.Costs.{cost-same}
 use Rattle.completions.specs.Boxes.{inside}
 use Rattle.completions.specs.Coming.{lies, mayCome}
-use Rattle.completions.specs.Left.{left}
+use Rattle.passes.proofs.Places.{left}
 use Rattle.completions.proofs.Begins.{tree-begins}
 use Rattle.completions.proofs.Boxes.{inside-cons, inside-length, larger-cons}
 use Rattle.completions.proofs.Coming.{lies-out, rest-come}

@@ -5,4 +5,3 @@ pub mod Rows
 pub mod Search
 pub mod Labels
 pub mod Weights
-pub mod Left

@@ -1,7 +1,7 @@
 -- What the greedy choice of one criterion says of a node: too short, or at its limit, it closes the node (`short`, `bounded`); inside, it is a tree (`made`); else its rows
 -- are usable, and the node may be split at each of them (`unsettled`).
 use mathlib.Core.Path.{_∙_, _≡_, ap, refl, subst, sym}
-use mathlib.Core.Bool.{Bool, false, true}
+use mathlib.Core.Bool.{false, true}
 use mathlib.Core.Logic.{⊎-elim}
 use mathlib.Core.Option.{none, some}
 use mathlib.Core.List.{List, [], _++_, _∷_, List·Memᴰ·append-cases as append-cases, List·Memᴰ·head as here, List·Memᴰ·cases-cons as mem-cases, List·Memᴰ·not-nil as mem-nil, List·Memᴰ·tail as there}
@@ -9,17 +9,17 @@ use Prim.Native.Nat.{_+_, _<_, _≤_, suc, zero, ℕ}
 use native.Mathlib.Decide.{decLt, ℕ-discrete}
 use native.Mathlib.Nat.{zero-add}
 use native.Mathlib.Omega.{arith}
-use lib.Dec.{T, eqb, ltb, ltb→lt, lt→ltb}
+use lib.Dec.{T, ltb, ltb→lt, lt→ltb}
 use lib.ListN.{List·getD-eq-default, getD, getElem?, length, length-append, take}
 use lib.Seq.{getD-take, take-all}
 use borrow.Author.Tests.{le-ltb, ne-eqb}
-use Rattle.lists.specs.Lists.{filterB, pick, range}
+use Rattle.lists.specs.Lists.{filterB, range}
 use Rattle.lists.proofs.Members.{_∈_, _⊆_, filter-in, filter-out, range-out, take-out}
 use Rattle.lists.proofs.Ranges.{range-length}
 use Rattle.lists.proofs.Tests.{T-false, T-true, pick-elim}
 use Rattle.graph.specs.Graph.{Graph}
 use Rattle.costs.specs.Costs.{costAt, costBy, costOf}
-use Rattle.costs.specs.Network.{Kind, Network, added, closing, worst}
+use Rattle.costs.specs.Network.{Network}
 use Rattle.forests.proofs.Joined.{Lies, lies-known}
 use Rattle.forests.proofs.Parts.{forest-size}
 use Rattle.completions.specs.Boxes.{inside}

@@ -5,7 +5,7 @@ use mathlib.Core.Bool.{Bool, false, true}
 use mathlib.Core.Logic.{_↔_, ⊎-elim}
 use mathlib.Core.Option.{Option, none, some}
 use mathlib.Core.List.{List, [], _++_, _∷_, append-nil, List·Memᴰ·append-cases as append-cases, Memᴰ·append-left as append-left, Memᴰ·append-right as append-right, List·Memᴰ·head as here, List·Memᴰ·cases-cons as mem-cases, List·Memᴰ·not-nil as mem-nil, List·Memᴰ·tail as there}
-use Prim.Native.Nat.{_-_, _<_, _≤_, suc, ℕ}
+use Prim.Native.Nat.{_-_, _<_, suc, ℕ}
 use native.Mathlib.Omega.{arith}
 use lib.Dec.{T, ltb→lt}
 use lib.ListN.{getD, length, length-append, length-map, length-set, set, take}
@@ -18,7 +18,7 @@ use Rattle.graph.specs.Graph.{Graph}
 use Rattle.costs.specs.Costs.{costOf}
 use Rattle.costs.specs.Network.{Network}
 use Rattle.forests.proofs.Forest.{Forest, forest-part}
-use Rattle.forests.proofs.Joined.{Lies, lies-known}
+use Rattle.forests.proofs.Joined.{lies-known}
 use Rattle.forests.proofs.Parts.{forest-size}
 use Rattle.bounds.proofs.Skip.{cost-length}
 use Rattle.completions.specs.Boxes.{inside}

@@ -1,12 +1,9 @@
 -- What a search is over: the graph of two lists of ends (`graphIn`), the network of the tables, and sequences of its rows (`Tables`); a node of it (`Node`); and what an
 -- answer stands for (`foundOf`). Which tree is found is left open; completions' `Answers` says what the answer tells.
-use mathlib.Core.Path.{_≡_}
-use mathlib.Core.Bool.{Bool, false, true}
-use mathlib.Core.Logic.{_⊎_}
 use mathlib.Core.Option.{Option, none, some}
-use mathlib.Core.List.{List, [], _∷_}
+use mathlib.Core.List.{List, []}
 use Prim.Native.Nat.{_*_, _+_, _<_, _≤_, ℕ}
-use lib.Dec.{T, eqb, leb, ltb}
+use lib.Dec.{leb}
 use lib.ListN.{drop, getD, length, take}
 use Rattle.lists.specs.Lists.{pick, range}
 use Rattle.lists.proofs.Members.{_∈_}
@@ -15,8 +12,8 @@ use Rattle.graph.proofs.Minimal.{WellFormed}
 use Rattle.forests.proofs.Forest.{Forest}
 use Rattle.forests.proofs.Joined.{Lies}
 use Rattle.completions.proofs.Greedy.{Rising}
-use Rattle.chosen.specs.Chosen.{isOn, rowsOf, rowsOn}
-use Rattle.tally.specs.Tally.{costIn, kindCost}
+use Rattle.chosen.specs.Chosen.{rowsOf, rowsOn}
+use Rattle.tally.specs.Tally.{costIn}
 use Rattle.find.specs.declared.Found.{Found}
 
 -- the graph of these ends, with nodes from 1 on and the plant at node 1

@@ -5,7 +5,7 @@ use mathlib.Core.Logic.{_⊎_}
 use mathlib.Core.Option.{none}
 use mathlib.Core.List.{List, _++_}
 use Prim.Native.Nat.{_+_, _<_, _≤_, suc, ℕ}
-use lib.Dec.{T, eqb, ltb}
+use lib.Dec.{T, ltb}
 use lib.ListN.{getD, length, take}
 use Rattle.lists.specs.Lists.{pick, range}
 use Rattle.lists.proofs.Members.{_∈_, _⊆_}

@@ -1,20 +1,18 @@
 -- What `front` hands to the search: the walk and the tables of an accepted file that has a tree (`searched`); and the front of the tables' network is the file's (`filled-for`).
 use mathlib.Core.Path.{_∙_, _≡_, ap, refl, subst, sym}
-use mathlib.Core.Bool.{Bool}
 use mathlib.Core.List.{List, [], _∷_, List·Memᴰ·head as here, map, List·Memᴰ·tail as there}
 use Prim.Native.Nat.{_-_, ℕ}
 use native.Mathlib.Omega.{arith}
 use lib.Dec.{T}
 use lib.ListN.{length, take}
 use Rattle.lists.specs.Lists.{first, firstWith}
-use Rattle.lists.proofs.Distinct.{Distinct}
 use Rattle.lists.proofs.Members.{_∈_}
 use Rattle.checks.specs.Checks.{Outcome}
 use Rattle.graph.specs.Graph.{Graph, isTree}
 use Rattle.graph.specs.Paths.{pathIn}
 use Rattle.graph.proofs.Tree.{minimal-tree, tree-out}
 use Rattle.costs.specs.Costs.{costOf, front, frontOf, frontTrees, frontVectors, treeWith}
-use Rattle.costs.specs.Layouts.{mustFirsts, mustRows}
+use Rattle.costs.specs.Layouts.{mustRows}
 use Rattle.costs.specs.Network.{Network}
 use Rattle.states.specs.States.{treesWith}
 use Rattle.states.proofs.Open.{layouts-with}

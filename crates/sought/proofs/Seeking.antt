@@ -8,20 +8,19 @@ use Prim.Native.Nat.{_+_, _<_, _≤_, suc, ℕ}
 use native.Mathlib.Numerals.{add-one}
 use native.Mathlib.Omega.{arith}
 use lib.ListN.{getD, length, take}
-use Rattle.lists.proofs.Members.{_∈_}
 use Rattle.graph.specs.Graph.{Graph, rowNumbers}
 use Rattle.graph.specs.Paths.{Key}
 use Rattle.graph.proofs.Growth.{rowsOf, rowsOf-length, start}
-use Rattle.graph.proofs.Minimal.{WellFormed, sound-start}
+use Rattle.graph.proofs.Minimal.{sound-start}
 use Rattle.graph.proofs.Parts.{FirstIn}
 use Rattle.graph.proofs.Unique.{completion-length}
 use Rattle.costs.specs.Network.{Network}
 use Rattle.bounds.proofs.Missing.{rows-map}
-use Rattle.bounds.proofs.Prefix.{AfterIn, NoneAfterIn}
+use Rattle.bounds.proofs.Prefix.{AfterIn}
 use Rattle.states.specs.States.{treesWith}
 use Rattle.states.proofs.Full.{Full}
 use Rattle.states.proofs.With.{with-part}
-use Rattle.completions.specs.Left.{left}
+use Rattle.passes.proofs.Places.{left}
 use Rattle.completions.proofs.Witness.{Shuts, Sought, after-left, sought-after, sought-deeper, sought-end, sought-first, sought-none}
 use Rattle.chosen.specs.Chosen.{rowsOn}
 use Rattle.chosen.proofs.Flags.{on-mem}

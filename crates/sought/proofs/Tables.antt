@@ -2,7 +2,7 @@
 -- end none is left (`row-whole`), or one more row does not fit (`row-cut`).
 use mathlib.Core.Path.{_∙_, _≡_, ap, refl, subst, sym}
 use mathlib.Core.Bool.{false, true}
-use mathlib.Core.Option.{Option, none, some}
+use mathlib.Core.Option.{none, some}
 use mathlib.Core.List.{List, [], _++_, _∷_, append-nil, map, Memᴰ·of-map as map-out}
 use Prim.Native.Nat.{_*_, _+_, _/_, _<_, _≤_, min, suc, zero, ℕ}
 use native.Mathlib.Nat.{mod-eq-of-lt, mul-div-cancel, mul-le-mul-right, one-mul}

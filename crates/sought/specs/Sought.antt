@@ -3,20 +3,18 @@
 use mathlib.Core.Path.{_≡_}
 use mathlib.Core.Option.{none}
 use mathlib.Core.List.{List, [], _∷_}
-use Prim.Native.Nat.{_%_, _*_, _-_, _≤_, min, suc, ℕ}
-use lib.Dec.{T, leb, ltb}
-use lib.ListN.{getD, length, take}
+use Prim.Native.Nat.{_%_, _*_, _-_, min, suc, ℕ}
+use lib.Dec.{T, ltb}
+use lib.ListN.{getD, take}
 use Rattle.lists.specs.Lists.{pick}
-use Rattle.checks.specs.Checks.{Outcome, answered}
 use Rattle.costs.specs.Costs.{costOf, frontTrees, frontVectors}
 use Rattle.costs.specs.Network.{Network}
 use Rattle.graph.specs.Graph.{Graph}
-use Rattle.pages.specs.Pages.{flat}
 use Rattle.states.specs.States.{treesWith}
 use Rattle.costs.specs.Layouts.{mustFirsts, mustSeconds}
 use Rattle.network_file.specs.File.{networkOf, sizesOf}
 use Rattle.network_file.proofs.Accepted.{Accepted}
-use Rattle.operations.specs.Operations.{Fronted, layoutsIn, openIn, over}
+use Rattle.operations.specs.Operations.{layoutsIn, openIn}
 use Rattle.ends.specs.Ends.{nodesWord}
 use Rattle.lists.proofs.Members.{_∈_}
 use Rattle.completions.specs.Boxes.{inside}

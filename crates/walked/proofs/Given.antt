@@ -1,5 +1,5 @@
 -- What `front` hands to the passes: the walk of a file that has a tree.
-use mathlib.Core.Path.{_≡_, ap, refl}
+use mathlib.Core.Path.{ap, refl}
 use mathlib.Core.List.{List}
 use Prim.Native.Nat.{_-_, ℕ}
 use lib.ListN.{take}

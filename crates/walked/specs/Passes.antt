@@ -3,17 +3,15 @@
 use mathlib.Core.Path.{_≡_}
 use mathlib.Core.Bool.{false, true}
 use mathlib.Core.List.{List}
-use Prim.Native.Nat.{_*_, _+_, _<_, _≤_, min, ℕ}
-use lib.Dec.{leb}
+use Prim.Native.Nat.{_*_, _+_, _<_, _≤_, ℕ}
 use lib.ListN.{drop, length, take}
-use Rattle.checks.specs.Checks.{Outcome, answered}
 use Rattle.lists.proofs.Members.{_∈_}
 use Rattle.costs.specs.Costs.{front, frontTrees}
 use Rattle.costs.specs.Layouts.{mustRows}
 use Rattle.network_file.specs.File.{networkOf, sizesOf}
 use Rattle.network_file.proofs.Accepted.{Accepted}
-use Rattle.pages.specs.Pages.{flat, pieces}
-use Rattle.operations.specs.Operations.{Fronted, layoutsIn, openIn, over}
+use Rattle.pages.specs.Pages.{pieces}
+use Rattle.operations.specs.Operations.{layoutsIn, openIn}
 use Rattle.scratch.specs.declared.Scratch.{Scratch}
 use Rattle.grow.proofs.Musts.{Mustered}
 use Rattle.walk.proofs.Behind.{Fitted}

@@ -4,7 +4,7 @@ use Prim.Native.Nat.{_+_, _-_}
 use native.Mathlib.Omega.{arith}
 use borrow.Author.Needs.{needs}
 use Rattle.states.specs.States.{treesWith}
-use Rattle.completions.specs.Left.{left}
+use Rattle.passes.proofs.Places.{left}
 use Rattle.chosen.specs.Chosen.{rowsOn}
 use Rattle.find.specs.Find.{graphIn}
 use Rattle.paths.specs.Path.{rowsIn}
