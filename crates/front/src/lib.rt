@@ -27,7 +27,7 @@ fn degree(firsts: [u8; 256], seconds: [u8; 256], v: u8) -> u64
     count
 }
 
-// So many trees are walked faster than a front of k criteria is sought, as measured.
+// Up to so many trees the list is walked: with more criteria a front has more rows to seek, and a walk takes the same time whatever their number.
 fn most_walked(k: u8) -> u64
     ensures { λ r. ⌜ r ≤ 10000000 ⌝ }
 {
