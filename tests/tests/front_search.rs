@@ -355,6 +355,18 @@ fn scaled(mut network: Network) -> Network {
     network
 }
 
+/// The network with costs anywhere in their range, but for days and crossings.
+fn wide(mut network: Network) -> Network {
+    let rng = &mut Rng::new(1);
+    let kinds = network.kinds.clone();
+    for row in &mut network.rows {
+        for (cost, _) in row.costs.iter_mut().zip(&kinds).filter(|(_, kind)| **kind == 0) {
+            *cost = rng.between(0, MOST as usize) as u32;
+        }
+    }
+    network
+}
+
 /// Front, whole, at its own size and cut, against the plain search.
 fn against_the_search(networks: &[Network]) {
     for (seed, network) in (0..).zip(networks) {
@@ -397,9 +409,13 @@ fn street_grids_of_25_to_32_nodes() {
         study::grid(5, 5, 4, ADDED_CLOSING, 3),
         some_states(study::grid(5, 5, 4, ALL_THREE, 3), 8, 6),
         study::grid(5, 6, 4, ADDED_WORST, 3),
+        study::grid(5, 6, 4, ADDED_ADDED, 3),
+        wide(study::grid(5, 6, 4, ADDED_ADDED, 3)),
         some_states(study::grid(5, 6, 4, ADDED_CLOSING, 3), 10, 5),
         scaled(study::grid(4, 8, 4, ADDED_WORST, 3)),
-        some_states(study::grid(4, 8, 4, ADDED_CLOSING, 3), 12, 6),
+        scaled(study::grid(4, 8, 4, ADDED_ADDED, 3)),
+        study::grid(4, 8, 4, ADDED_CLOSING, 3),
+        study::grid(4, 8, 4, ALL_THREE, 3),
     ]);
 }
 
@@ -409,7 +425,12 @@ fn sparse_networks() {
         study::sparse(16, 30, ADDED_ADDED, 2),
         study::sparse(16, 30, ALL_THREE, 2),
         study::sparse(20, 46, ADDED_CLOSING, 2),
+        study::sparse(20, 46, ALL_THREE, 2),
         study::sparse(26, 50, ADDED_WORST, 2),
+        study::sparse(26, 50, ADDED_ADDED, 2),
+        wide(study::sparse(26, 50, ADDED_CLOSING, 2)),
+        study::sparse(32, 60, ADDED_ADDED, 2),
+        study::sparse(32, 60, ALL_THREE, 2),
         some_states(study::sparse(32, 60, ALL_THREE, 2), 12, 16),
     ]);
 }
@@ -429,15 +450,18 @@ fn fronts_of_the_study() {
     assert_eq!(size(&study::complete(12, ADDED_ADDED, 2)), 43);
 }
 
-/// All costs equal, and all rows in one street: one vector, and the first path of the list, which has some billion trees.
+/// All costs equal, and all rows in one street or off the road: one vector, and the first path of the list, which has some
+/// billion trees.
 #[test]
 fn large_networks_of_one_vector() {
     let rng = &mut Rng::new(1);
-    for (kinds, cost) in [
-        (ADDED_WORST, 0),
-        (ADDED_ADDED, MOST),
-        (ADDED_CLOSING, 3),
-        (ALL_THREE, MOST),
+    for (kinds, cost, street) in [
+        (ADDED_WORST, 0, 7),
+        (ADDED_ADDED, MOST, 7),
+        (ADDED_CLOSING, 3, 7),
+        (ADDED_CLOSING, 3, 0),
+        (ALL_THREE, MOST, 7),
+        (ALL_THREE, MOST, 0),
     ] {
         for mut network in [
             study::grid(4, 8, 4, kinds, 3),
@@ -447,10 +471,10 @@ fn large_networks_of_one_vector() {
         ] {
             for row in &mut network.rows {
                 row.costs.fill(cost);
-                row.street = 7;
+                row.street = street;
             }
-            let vector = kinds.iter().map(|&kind| match kind {
-                0 => cost * network.width() as u32,
+            let vector = kinds.iter().map(|&kind| match (kind, street) {
+                (0, _) | (2, 0) => cost * network.width() as u32,
                 _ => cost,
             });
             let front = [(vector.collect(), first_of_the_list(&network))];

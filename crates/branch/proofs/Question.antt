@@ -35,8 +35,8 @@ use Rattle.branch.specs.Branch.{Asked, Tells, flagsOf, standingOf}
 use Rattle.branch.proofs.Comes.{flags-usable}
 use Rattle.branch.proofs.Laws.{standing-once, standing-within}
 
-module _ {firsts seconds heads : List ℕ} {limit k : ℕ} {costs orders limits : List ℕ} {path : Path} {musts : List ℕ}
-    (asked : Asked firsts seconds heads limit k costs orders limits path musts) where
+module _ {firsts seconds heads : List ℕ} {limit k : ℕ} {limits : List ℕ} {path : Path} {musts : List ℕ}
+    (asked : Asked firsts seconds heads limit k limits path musts) where
   abbrev g : Graph
   g = graphIn firsts seconds limit
 

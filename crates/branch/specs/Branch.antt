@@ -67,8 +67,8 @@ standingOf heads len rows = take len rows ++ filterB (mustRow heads) (drop len r
 
 -- What a question is asked of: tables of a graph with nodes from 1 on, limits of which those past the last criterion let 0 in, the must rows by their heads, and a
 -- path of the list of trees with all must rows.
-pub record Asked (firsts seconds heads : List ℕ) (limit k : ℕ) (costs orders limits : List ℕ) (path : Path) (musts : List ℕ) : Type 0 where
-  pub tables : Tables firsts seconds limit k costs orders
+pub record Asked (firsts seconds heads : List ℕ) (limit k : ℕ) (limits : List ℕ) (path : Path) (musts : List ℕ) : Type 0 where
+  pub tables : Tables firsts seconds limit k
   pub open-past : (c : ℕ) → k ≤ c → c < 4 → 0 < getD limits c 0
   pub heads-are : (r : ℕ) → r < length firsts → ((r ∈ musts) ↔ (0 < getD heads r 0))
   pub plant : plantOf path ≡ 1

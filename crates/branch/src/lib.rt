@@ -155,12 +155,11 @@ pub fn opens(
     k: u8,
     costs: &[u32],
     leads: &[u8],
-    orders: &[u8],
     limits: [u64; 4],
     path: Path,
     len: usize,
 ) -> bool
-    ensures { λ r. ⌜ ((musts : List ℕ) → Asked (now (firsts .entry)) (now (seconds .entry)) (now (heads .entry)) limit k (now (costs .entry)) (now (orders .entry)) limits path musts → Tells (graphIn (now (firsts .entry)) (now (seconds .entry)) limit) (tableOf kinds k (now (costs .entry)) (now (leads .entry))) musts (take k limits) (take len (rowsIn path)) r) ⌝ }
+    ensures { λ r. ⌜ ((musts : List ℕ) → Asked (now (firsts .entry)) (now (seconds .entry)) (now (heads .entry)) limit k limits path musts → Tells (graphIn (now (firsts .entry)) (now (seconds .entry)) limit) (tableOf kinds k (now (costs .entry)) (now (leads .entry))) musts (take k limits) (take len (rowsIn path)) r) ⌝ }
 {
     let rows = standing(heads, path, len);
     let free = coming(firsts, seconds, heads, limit, path.shortened(len));
@@ -172,7 +171,6 @@ pub fn opens(
         k,
         costs,
         leads,
-        orders,
         limits,
         rows,
         free,

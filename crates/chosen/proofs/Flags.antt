@@ -1,16 +1,18 @@
--- Flags of rows: which rows have one set (`on-mem`), each once (`on-distinct`), and what a flag that is cleared leaves (`on-clear`, `on-fewer`). Assumes nothing.
-use mathlib.Core.Path.{_≡_, refl, subst}
+-- Flags of rows: which rows have one set (`on-mem`), each once (`on-distinct`), gathered row by row (`on-skip`, `on-next`, `on-end`), and what a flag that is cleared
+-- leaves (`on-clear`, `on-fewer`). Assumes nothing.
+use mathlib.Core.Path.{_∙_, _≡_, ap, refl, subst, sym}
 use mathlib.Core.Logic.{_↔_}
-use mathlib.Core.List.{List}
-use Prim.Native.Nat.{_<_, _≤_, ℕ}
+use mathlib.Core.List.{List, [], _∷_}
+use Prim.Native.Nat.{_+_, _-_, _<_, _≤_, suc, ℕ}
+use native.Mathlib.Numerals.{add-one}
 use native.Mathlib.Omega.{arith}
 use lib.Dec.{ltb→lt, lt→ltb}
 use lib.ListN.{getD, length, set}
 use lib.Seq.{getD-set-other, getD-set-same}
-use Rattle.lists.specs.Lists.{member, range}
-use Rattle.lists.proofs.Distinct.{Distinct, filter-distinct, pigeonhole, pigeonhole-one, range-distinct}
-use Rattle.lists.proofs.Members.{_∈_, _⊆_, filter-in, filter-out, member-in, member-out, range-in, range-out}
-use Rattle.lists.proofs.Tests.{T-same}
+use borrow.Author.Tests.{le-ltb, lt-ltb}
+use Rattle.lists.specs.Lists.{filterB, range}
+use Rattle.lists.proofs.Distinct.{Distinct, filter-distinct, pigeonhole-one, range-distinct}
+use Rattle.lists.proofs.Members.{_∈_, filter-in, filter-out, range-in, range-out}
 use Rattle.chosen.specs.Chosen.{isOn, rowsOn}
 
 -- which rows they are
@@ -25,19 +27,29 @@ pub on-distinct : (flags : List ℕ) → Distinct (rowsOn flags)
 unfolding rowsOn
 on-distinct flags = filter-distinct (isOn flags) (range 0 256) (range-distinct 0 256)
 
-pub on-member : (flags : List ℕ) (r : ℕ) → r < 256 → isOn flags r ≡ member r (rowsOn flags)
-on-member flags r h = T-same (isOn flags r) (member r (rowsOn flags))
-    (λ t. member-in (on-mem flags r .1 (h, ltb→lt 0 (getD flags r 0) t)))
-    (λ t. lt→ltb 0 (getD flags r 0) (on-mem flags r .0 (member-out r (rowsOn flags) t) .1))
+-- Those from a row on
 
--- Flags of which each that is set is set in others too
+abbrev pub onFrom : List ℕ → ℕ → List ℕ
+onFrom flags i = filterB (isOn flags) (range i (256 - i))
 
-module _ (a b : List ℕ) (part : (r : ℕ) → r < 256 → 0 < getD a r 0 → 0 < getD b r 0) where
-  pub on-part : rowsOn a ⊆ rowsOn b
-  on-part r m = let (h, t) = on-mem a r .0 m in on-mem b r .1 (h, part r h t)
+module _ (flags : List ℕ) (i : ℕ) where
+  range-turn : i < 256 → range i (256 - i) ≡ i ∷ range (i + 1) (256 - (i + 1))
+  unfolding range
+  range-turn h =
+      let more : 256 - i ≡ suc (256 - (i + 1)) = omega arith in
+      ap (range i) more ∙ ap (λ (k : ℕ). i ∷ range k (256 - (i + 1))) (sym (add-one i))
 
-  pub on-part-few : length (rowsOn a) ≤ length (rowsOn b)
-  on-part-few = pigeonhole (rowsOn a) (on-distinct a) on-part
+  pub on-skip : i < 256 → getD flags i 0 ≤ 0 → onFrom flags i ≡ onFrom flags (i + 1)
+  unfolding filterB
+  on-skip h e = ap (filterB (isOn flags)) (range-turn h) ∙ (rw (le-ltb 0 (getD flags i 0) e))
+
+  pub on-next : i < 256 → 0 < getD flags i 0 → onFrom flags i ≡ i ∷ onFrom flags (i + 1)
+  unfolding filterB
+  on-next h e = ap (filterB (isOn flags)) (range-turn h) ∙ (rw (lt-ltb 0 (getD flags i 0) e))
+
+  pub on-end : 256 ≤ i → onFrom flags i ≡ []
+  unfolding filterB range
+  on-end h = let over : 256 - i ≡ 0 = omega arith in ap (λ (k : ℕ). filterB (isOn flags) (range i k)) over
 
 -- One flag cleared
 

@@ -1,4 +1,4 @@
--- One row more BESIDE others: each criterion's cost from theirs (`cost-beside`). So the rows that fit are told without the costs of lists.
+-- One row more BESIDE others: what closing costs with it (`closing-beside`).
 use mathlib.Core.Path.{_∙_, _≡_, ap, ap₂, refl, sym}
 use mathlib.Core.Logic.{inl, inr, ⊎-elim}
 use mathlib.Core.Bool.{Bool}
@@ -11,8 +11,8 @@ use Rattle.lists.specs.Lists.{either, largest, member, pick, sum}
 use Rattle.lists.proofs.Distinct.{Distinct, mem?}
 use Rattle.lists.proofs.Members.{_∈_, filter-keep, filter-none, filter-skip, member-in, member-out}
 use Rattle.lists.proofs.Tests.{T-either, T-false, eq→eqb, pick-true}
-use Rattle.costs.specs.Costs.{closingCost, costAt, costBy, streetCost, streetsOf}
-use Rattle.costs.specs.Network.{Kind, Network, added, closing, worst}
+use Rattle.costs.specs.Costs.{closingCost, costAt, streetCost, streetsOf}
+use Rattle.costs.specs.Network.{Network, closing}
 use Rattle.bounds.specs.Bounds.{excessAt}
 use Rattle.bounds.proofs.Closing.{one-off, one-on, streetOf, streets-named}
 
@@ -93,15 +93,3 @@ module _ (w : Network) (c : ℕ) (rs : List ℕ) (r : ℕ) where
 
       off : ¬ (s ≡ 0) → excessAt w c rs r ≡ costAt w c r - before s
       off n = ap (λ (t : Bool). pick t (costAt w c r) (costAt w c r - before s)) (T-false (eqb s 0) .0 (λ t. n (eqb→eq s 0 t)))
-
-  -- what the costs of rs become with row r
-  abbrev pub besideBy : Kind → ℕ → ℕ
-  besideBy added x = costAt w c r + x
-  besideBy worst x = max (costAt w c r) x
-  besideBy closing x = x + excessAt w c rs r
-
-  pub cost-beside : (kind : Kind) → costBy kind w c (r ∷ rs) ≡ besideBy kind (costBy kind w c rs)
-  unfolding sum largest
-  cost-beside added = refl
-  cost-beside worst = refl
-  cost-beside closing = closing-beside

@@ -1,6 +1,6 @@
 -- FIND: one node of a search for a tree inside limits. The rows `inc` are in, the usable rows are undecided, all others are out. An answer is a tree of
--- the node that is inside the limits, or that there is none (`Answers`). There is none if a greedy choice from the usable rows is too short (`short-none`)
--- or costs too much in a criterion (`bound-none`), or if inc is a whole tree that is not inside (`only-none`). A full choice makes a tree (`made-inside`).
+-- the node that is inside the limits, or that there is none (`Answers`). There is none if a greedy choice from the usable rows is too short (`short-none`),
+-- or if inc is a whole tree that is not inside (`only-none`). A full choice makes a tree (`made-inside`).
 -- Else the node is split at a row of a choice (`choice-pivot`), out and in (`branches`). Rows that reach a limit beside inc need not be usable (`wider`),
 -- and the rows that are in may stand in any sequence (`same-rows`).
 use mathlib.Core.Path.{_∙_, _≡_, ap, subst, sym}
@@ -12,7 +12,6 @@ use native.Mathlib.Decide.{ℕ-discrete}
 use native.Mathlib.Omega.{arith}
 use lib.Dec.{T}
 use lib.ListN.{getD, getElem?, length, length-append}
-use Rattle.lists.proofs.Ascending.{getD-at}
 use Rattle.lists.proofs.Distinct.{Distinct, filled, mem?}
 use Rattle.lists.proofs.Members.{_∈_, _⊆_, cons-⊆}
 use Rattle.lists.proofs.Sums.{largest-within, sum-within}
@@ -26,18 +25,15 @@ use Rattle.forests.proofs.Forest.{Forest, forest-part}
 use Rattle.forests.proofs.Joined.{Lies}
 use Rattle.forests.proofs.Spanning.{full-tree}
 use Rattle.bounds.proofs.Closing.{closing-within}
-use Rattle.bounds.proofs.Growing.{added-append, worst-append}
-use Rattle.bounds.proofs.Skip.{cost-length}
 use Rattle.operations.proofs.Costs.{cost-same}
 use Rattle.completions.specs.Boxes.{inside}
-use Rattle.completions.specs.Coming.{spanBy}
 use Rattle.completions.specs.Greedy.{greedy}
 use Rattle.completions.specs.Search.{orElse}
-use Rattle.completions.proofs.Boxes.{inside-at, inside-down}
+use Rattle.completions.proofs.Boxes.{inside-down}
 use Rattle.completions.proofs.Coming.{append-apart}
 use Rattle.completions.proofs.Greedy.{Rising}
 use Rattle.completions.proofs.Labels.{greedy-forest, greedy-from}
-use Rattle.completions.proofs.Search.{Within, search-in, search-length, search-weight, search-worst}
+use Rattle.completions.proofs.Search.{Within, search-in, search-length}
 
 -- MORE: more rows cost no less, in any criterion
 
@@ -178,18 +174,3 @@ module _ (g : Graph) (inc us : List ℕ) (lies : (r : ℕ) → r ∈ us → Lies
           flat : (l : List ℕ) → Rising (λ r. 0) l
           flat [] = tt
           flat (r ∷ l) = (λ q m. omega arith, flat l)
-
-      -- BOUND: a choice that reaches a limit
-      module _ (c : ℕ) (up : Rising (costAt w c) seq) where
-        least-by : (p : List ℕ) → Within g inc us p → (kind : Kind) → spanBy kind w c inc (greedy g inc seq) ≤ costBy kind w c p
-        least-by p h added = omega (arith, added-append w c inc (greedy g inc seq), search-weight g wf inc seq p seq-lies (within-seq p h) (costAt w c) up)
-        least-by p h worst = omega (arith, worst-append w c inc (greedy g inc seq), search-worst g wf inc seq p seq-lies (within-seq p h) (costAt w c) up)
-        least-by p h closing = closing-within w c inc p (h .once) (h .has)
-
-        pub bound-none : (kind : Kind) → getElem? (w .kinds) c ≡ some kind → getD limits c 0 ≤ spanBy kind w c inc (greedy g inc seq) → Answers g w limits inc us none
-        bound-none kind e b p h i = omega (
-          arith,
-          least-by p h kind,
-          cost-at w c kind p e,
-          inside-at limits (costOf w p) c i (omega (arith, cost-length w p, getD-at (w .kinds) c kind e .0)),
-        )

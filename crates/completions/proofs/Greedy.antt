@@ -1,18 +1,20 @@
 -- GREEDY: rows ls that complete rows ps to a spanning tree weigh, matched one by one, no less than the greedy choice from a sequence of rows that has them
 -- all and ascends by weight (`greedy-lighter`). By exchange: the first row of the sequence that ps does not close is in the tree, or takes the place of
--- a row of ls. Rows that fail a test may be left out of an ascending sequence (`rising-filter`).
-use mathlib.Core.Path.{_≡_, refl, sym}
+-- a row of ls. Rows that fail a test may be left out of an ascending sequence (`rising-filter`), and a weight that agrees on it may take the place of another (`rising-same`).
+-- Rows that are sorted by their weights ascend (`sort-rising`).
+use mathlib.Core.Path.{_≡_, refl, subst, sym}
 use mathlib.Core.Logic.{_⊎_, inl, inr, ⊎-elim}
 use mathlib.Core.Bool.{Bool, false, true}
 use mathlib.Core.List.{List, [], _∷_, List·Memᴰ·head as here, List·Memᴰ·cases-cons as mem-cases, Memᴰ·cast as mem-cast, List·Memᴰ·not-nil as mem-nil, List·Memᴰ·tail as there}
 use Prim.Native.Nat.{_≤_, ℕ}
 use native.Mathlib.Decide.{ℕ-discrete}
 use native.Mathlib.Omega.{arith}
-use lib.Dec.{T}
-use Rattle.lists.specs.Lists.{filterB, keepIf, pick}
+use lib.Dec.{T, ltb, ltb→lt}
+use Rattle.lists.specs.Lists.{filterB, insert, keepIf, pick, sort}
 use Rattle.lists.proofs.Distinct.{Distinct, mem?}
 use Rattle.lists.proofs.Members.{_∈_, _⊆_, cons-⊆, filter-out, mem-elim}
-use Rattle.lists.proofs.Tests.{pick-elim}
+use Rattle.lists.proofs.Orders.{insert-out}
+use Rattle.lists.proofs.Tests.{not-ltb→le, pick-elim}
 use Rattle.graph.specs.Graph.{Graph, firstEnd, isTree, secondEnd}
 use Rattle.graph.proofs.Minimal.{WellFormed}
 use Rattle.forests.specs.Forests.{cut, swap}
@@ -40,6 +42,14 @@ rising-filter w test (r ∷ rs) up = keep (test r) (rising-filter w test rs (up 
     keep : (b : Bool) → Rising w (filterB test rs) → Rising w (keepIf b r (filterB test rs))
     keep true h = (λ q m. up .0 q (filter-out test rs m .0), h)
     keep false h = h
+
+-- by a weight that agrees on the rows, too
+pub rising-same : (w v : ℕ → ℕ) (rs : List ℕ) → ((r : ℕ) → r ∈ rs → w r ≡ v r) → Rising w rs → Rising v rs
+rising-same w v [] same up = tt
+rising-same w v (r ∷ rs) same up = (
+  λ q m. rw (← same r (here refl), ← same q (there m)) (up .0 q m),
+  rising-same w v rs (λ q m. same q (there m)) (up .1),
+)
 
 -- ts is a spanning tree of the rows ps and, apart from them, ls
 pub record Completes (g : Graph) (ps ls ts : List ℕ) : Type 0 where
@@ -121,3 +131,26 @@ greedy-lighter g wf w (r ∷ rs) ps ls ts up lies c s =
               let (f, i, d) = swapped g wf ps ls ts c r l (λ j. n (joined-runs g ps (firstEnd g r) (secondEnd g r) (l .first) .0 j)) out in
               (f, i, heavier f i, ih (r ∷ ps) (cut f ls) (swap f r ts) d (λ q m. later out q (cut-old f ls q m)))
         ])
+
+-- Rows sorted by their weights
+
+module _ (w : ℕ → ℕ) where
+  abbrev lighter : ℕ → ℕ → Bool
+  lighter x y = ltb (w x) (w y)
+
+  insert-rising : (a : ℕ) (l : List ℕ) → Rising w l → Rising w (insert lighter a l)
+  unfolding insert
+  insert-rising a [] up = (λ q m. absurd (mem-nil m), tt)
+  insert-rising a (b ∷ l) up = pick-elim (Rising w) (lighter b a)
+      (λ t. (
+        λ q m. ⊎-elim (λ d. subst (λ (x : ℕ). w b ≤ w x) (sym d) (omega (arith, ltb→lt (w b) (w a) t))) (up .0 q) (insert-out lighter l m),
+        insert-rising a l (up .1),
+      ))
+      (λ n.
+      let low : w a ≤ w b = not-ltb→le (w b) (w a) n in
+      (λ q m. ⊎-elim (λ d. subst (λ (x : ℕ). w a ≤ w x) (sym d) low) (λ i. omega (arith, low, up .0 q i)) (mem-cases m), up))
+
+  pub sort-rising : (l : List ℕ) → Rising w (sort lighter l)
+  unfolding sort
+  sort-rising [] = tt
+  sort-rising (a ∷ l) = insert-rising a (sort lighter l) (sort-rising l)

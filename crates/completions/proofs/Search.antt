@@ -1,33 +1,32 @@
--- A SEARCH in any order: trees that have the rows inc, and whose other rows are in a sequence `order`, cost no less than inc with the greedy choice from it, by any weight
--- (`search-weight`), by the largest (`search-worst`), by closing once per street (`search-once`); and the choice is as long as what is missing (`search-length`).
--- A row r is in such a tree or out of it: then inc grows by r, or `order` may do without it (`search-in`, `search-out`).
-use mathlib.Core.Path.{_∙_, _≡_, ap, sym}
+-- A SEARCH in any order, for trees that have the rows inc and whose other rows are in a sequence `order`. By any weight the other rows weigh no less than the greedy choice
+-- from it (`search-rest`), which is as long as what is missing (`search-length`); they and inc cost no more than the tree, by a weight (`search-parts`) and by closing with
+-- fair shares (`search-shares`). If a row is in such a tree inc may grow by it (`search-in`).
+use mathlib.Core.Path.{_∙_, _≡_, ap}
 use mathlib.Core.Logic.{inl, inr, ⊎-elim}
 use mathlib.Core.Bool.{not}
-use mathlib.Core.List.{List, _++_, _∷_, List·Memᴰ·append-cases as append-cases, Memᴰ·append-left as append-left, Memᴰ·append-right as append-right, map, map-append, Memᴰ·cast as mem-cast, List·Memᴰ·tail as there}
-use Prim.Native.Nat.{_*_, _+_, _≤_, max, suc, ℕ}
+use mathlib.Core.List.{List, _++_, _∷_, List·Memᴰ·append-cases as append-cases, Memᴰ·append-left as append-left, Memᴰ·append-right as append-right, map, map-append, List·Memᴰ·tail as there}
+use Prim.Native.Nat.{_*_, _+_, _≤_, suc, ℕ}
 use native.Mathlib.Decide.{ℕ-discrete}
 use native.Mathlib.Nat.{mul-le-mul-right}
 use native.Mathlib.Omega.{arith}
 use lib.Dec.{T, T-not, not-T}
 use lib.ListN.{length, length-append}
-use Rattle.lists.specs.Lists.{largest, member, sum}
+use Rattle.lists.specs.Lists.{member, sum}
 use Rattle.lists.proofs.Distinct.{Distinct, append-distinct, filter-distinct, mem?, pigeonhole}
 use Rattle.lists.proofs.Members.{_∈_, _⊆_, cons-⊆, filter-in, filter-out, member-in, member-out}
-use Rattle.lists.proofs.Sums.{largest-within, sum-append, sum-within}
+use Rattle.lists.proofs.Sums.{sum-append, sum-within}
 use Rattle.graph.specs.Graph.{Graph, isTree}
 use Rattle.graph.proofs.Minimal.{WellFormed}
 use Rattle.graph.proofs.Tree.{tree-out}
 use Rattle.costs.specs.Costs.{closingCost}
 use Rattle.costs.specs.Network.{Network}
 use Rattle.bounds.proofs.Closing.{closing-within}
-use Rattle.forests.specs.Forests.{cut, weight}
-use Rattle.forests.proofs.Cuts.{cut-in}
+use Rattle.forests.specs.Forests.{weight}
 use Rattle.forests.proofs.Joined.{Lies}
 use Rattle.completions.specs.Greedy.{greedy}
 use Rattle.completions.specs.Search.{others}
 use Rattle.completions.proofs.Greedy.{Completes, Rising, greedy-lighter}
-use Rattle.completions.proofs.Lighter.{Lighter, lighter-largest, lighter-length, lighter-weight}
+use Rattle.completions.proofs.Lighter.{Lighter, lighter-length, lighter-weight}
 use Rattle.completions.proofs.Shares.{Fair, shares-below}
 
 pub weight-append : (v : ℕ → ℕ) (l m : List ℕ) → weight v (l ++ m) ≡ weight v l + weight v m
@@ -44,15 +43,6 @@ module _ (g : Graph) (inc order p : List ℕ) (h : Within g inc order p) (r : �
   -- IN
   pub search-in : r ∈ p → ¬ (r ∈ inc) → Within g (r ∷ inc) order p
   search-in i n = record { tree = h .tree; has = cons-⊆ i (h .has); once = (n, h .once); rest = λ q m k. h .rest q m (λ z. k (there z)) }
-
-  -- OUT
-  pub search-out : ¬ (r ∈ p) → Within g inc (cut r order) p
-  search-out n = record {
-    tree = h .tree;
-    has = h .has;
-    once = h .once;
-    rest = λ q m k. cut-in r (h .rest q m k) (λ e. n (mem-cast (sym e) m));
-  }
 
 module _ (g : Graph) (wf : WellFormed g) (inc order p : List ℕ) (lies : (r : ℕ) → r ∈ order → Lies g r) (h : Within g inc order p) where
   other-out : {r : ℕ} → r ∈ others inc p → (r ∈ p) × (¬ (r ∈ inc))
@@ -98,16 +88,7 @@ module _ (g : Graph) (wf : WellFormed g) (inc order p : List ℕ) (lies : (r : �
     pigeonhole p {m = inc ++ others inc p} (tree-out g p (h .tree) .once) all-p,
   )
 
-  -- WEIGHT
-  pub search-weight : (v : ℕ → ℕ) → Rising v order → weight v inc + weight v (greedy g inc order) ≤ weight v p
-  search-weight v up = omega (
-    arith,
-    lighter-weight v (greedy g inc order) (others inc p) others-once (lighter v up),
-    weight-append v inc (others inc p),
-    sum-within v (inc ++ others inc p) {m = p} together within-p,
-  )
-
-  -- the other rows alone
+  -- REST
   pub search-rest : (v : ℕ → ℕ) → Rising v order → weight v (greedy g inc order) ≤ weight v (others inc p)
   search-rest v up = lighter-weight v (greedy g inc order) (others inc p) others-once (lighter v up)
 
@@ -115,28 +96,10 @@ module _ (g : Graph) (wf : WellFormed g) (inc order p : List ℕ) (lies : (r : �
   pub search-parts : (v : ℕ → ℕ) → weight v inc + weight v (others inc p) ≤ weight v p
   search-parts v = omega (arith, weight-append v inc (others inc p), sum-within v (inc ++ others inc p) {m = p} together within-p)
 
+  -- the same by closing
   pub search-shares : (w : Network) (c parts : ℕ) (share : ℕ → ℕ) → Fair w c parts share inc order → closingCost w c inc * parts + weight share (others inc p) ≤ closingCost w c p * parts
   search-shares w c parts share fair = omega (
     arith,
-    shares-below w c parts share inc order fair (others inc p) others-once (λ q m. let (i, n) = other-out m in h .rest q i n),
-    mul-le-mul-right parts (closing-within w c (inc ++ others inc p) p together within-p),
-  )
-
-  -- WORST
-  pub search-worst : (v : ℕ → ℕ) → Rising v order → max (largest (map v inc)) (largest (map v (greedy g inc order))) ≤ largest (map v p)
-  search-worst v up = omega (
-    arith,
-    lighter-largest v (greedy g inc order) (others inc p) others-once (lighter v up),
-    largest-within v inc (h .has),
-    largest-within v (others inc p) (λ q m. other-out m .0),
-  )
-
-  -- ONCE
-  pub search-once : (w : Network) (c parts : ℕ) (share : ℕ → ℕ) → Rising share order → Fair w c parts share inc order
-      → closingCost w c inc * parts + weight share (greedy g inc order) ≤ closingCost w c p * parts
-  search-once w c parts share up fair = omega (
-    arith,
-    lighter-weight share (greedy g inc order) (others inc p) others-once (lighter share up),
     shares-below w c parts share inc order fair (others inc p) others-once (λ q m. let (i, n) = other-out m in h .rest q i n),
     mul-le-mul-right parts (closing-within w c (inc ++ others inc p) p together within-p),
   )

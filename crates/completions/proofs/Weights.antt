@@ -1,6 +1,5 @@
 -- HEAVY: where the mixed weight of what is in and of the greedy choice is more than the limits allow, no tree of the node is inside them (`heavy-none`).
--- This is for any factors and any fair shares. Shares among at least the usable rows that cost more than their street has paid are fair (`shares-fair`):
--- even ones (`even-shares`), and those among no other rows (`above-shares`).
+-- This is for any factors and any fair shares, such as even ones among the usable rows that cost more than their street has paid (`above-shares`).
 use mathlib.Core.Path.{_∙_, _≡_, ap, refl, subst, sym}
 use mathlib.Core.Option.{Option, none, some}
 use mathlib.Core.List.{List, [], _∷_, map}
@@ -12,7 +11,7 @@ use lib.Dec.{eqb, eqb→eq, ltb, lt→ltb}
 use lib.ListN.{getD, getElem?, length}
 use Rattle.lists.specs.Lists.{sum}
 use Rattle.lists.proofs.Distinct.{pigeonhole}
-use Rattle.lists.proofs.Members.{_∈_, _⊆_, filter-in, filter-length, filter-out}
+use Rattle.lists.proofs.Members.{_∈_, _⊆_, filter-in, filter-out}
 use Rattle.lists.proofs.Sums.{largest-within}
 use Rattle.lists.proofs.Tests.{eq→eqb, pick-elim}
 use Rattle.graph.specs.Graph.{Graph}
@@ -26,7 +25,7 @@ use Rattle.forests.proofs.Joined.{Lies}
 use Rattle.completions.specs.Boxes.{dot, mix, total}
 use Rattle.completions.specs.Greedy.{greedy}
 use Rattle.completions.specs.Search.{others}
-use Rattle.completions.specs.Weights.{aboveIn, aboveShare, evenShare, paid, paidBy, rate, rateBy, shareBy}
+use Rattle.completions.specs.Weights.{aboveIn, aboveShare, paid, paidBy, rate, rateBy, shareBy}
 use Rattle.completions.proofs.Boxes.{inside-dot}
 use Rattle.completions.proofs.Filters.{dot-total, mix-below}
 use Rattle.completions.proofs.Find.{Answers, cost-at}
@@ -62,15 +61,11 @@ module _ (w : Network) (parts : ℕ) (inc usable : List ℕ) (c : ℕ) where
             omega (arith, div-le-self ((a - b) * parts) k, ap (λ (x : ℕ). x * parts) none-left)
 
     -- SHARES
-    pub shares-fair : Fair w c parts share inc usable
+    shares-fair : Fair w c parts share inc usable
     shares-fair = even-fair w c parts share inc usable sharers
         (λ s n x d i have. omega (arith, few s n, pigeonhole x {m = aboveIn w inc usable c s} d (λ r m. share-above s r n (i r m) (have r m))))
         (λ s r n m. rw (share-in s r n m) (mul-div-le ((costAt w c r - streetCost w c inc s) * parts) (sharers s)))
         (λ r m e. pick-elim (λ (x : ℕ). x ≤ costAt w c r * parts) (eqb (streetOf w r) 0) (λ t. omega arith) (λ n. absurd (n (eq→eqb (streetOf w r) 0 e))))
-
-  -- EVEN
-  pub even-shares : Fair w c parts (evenShare w parts inc usable c) inc usable
-  even-shares = shares-fair (λ s. length (inStreet w s usable)) (λ s n. filter-length (λ r. ltb (streetCost w c inc s) (costAt w c r)) (inStreet w s usable))
 
   -- ABOVE
   pub above-shares : Fair w c parts (aboveShare w parts inc usable c) inc usable
@@ -88,7 +83,7 @@ unfolding sum
 weightless [] = refl
 weightless (r ∷ ls) = omega (arith, weightless ls)
 
-total-parts : (f : ℕ → ℕ) (parts : ℕ) (factors : List ℕ) (c : ℕ) → total (λ i. f i * parts) factors c ≡ total f factors c * parts
+pub total-parts : (f : ℕ → ℕ) (parts : ℕ) (factors : List ℕ) (c : ℕ) → total (λ i. f i * parts) factors c ≡ total f factors c * parts
 unfolding total
 total-parts f parts [] c = omega arith
 total-parts f parts (a ∷ factors) c = omega (arith, total-parts f parts factors (suc c), add-mul (f c * a) (total f factors (suc c)) parts, swap (f c) parts a)

@@ -1,13 +1,11 @@
--- The rows that may still COME behind a prefix, and what rows with a choice of further rows cost at least in a criterion.
+-- The rows that may still COME behind a prefix.
 -- The graph is given beside the network, so that it may lack rows that are barred.
 use mathlib.Core.Bool.{Bool}
-use mathlib.Core.List.{List, _++_}
+use mathlib.Core.List.{List}
 use Prim.Native.Nat.{ℕ}
 use Rattle.lists.specs.Lists.{any, both, member}
 use Rattle.graph.specs.Graph.{Graph, firstEnd, secondEnd}
 use Rattle.graph.specs.Paths.{steps}
-use Rattle.costs.specs.Costs.{addedCost, closingCost, worstCost}
-use Rattle.costs.specs.Network.{Kind, Network, added, closing, worst}
 use Rattle.bounds.specs.Bounds.{allowed, enteredBy, keysOr, lastKey, missing, noKey}
 
 -- both ends of row r are nodes
@@ -18,9 +16,3 @@ lies g r = both (member (firstEnd g r) (g .nodes)) (member (secondEnd g r) (g .n
 unfoldable pub mayCome : Graph → List ℕ → ℕ → Bool
 mayCome g prefix r =
     both (lies g r) (any (λ v. allowed g (enteredBy g prefix) (lastKey noKey (keysOr (steps g prefix))) v r) (missing g (enteredBy g prefix)))
-
--- what rows ps with the choice gs cost at least, by each kind; closing is what ps have paid, for a street of theirs may have the further rows
-abbrev pub spanBy : Kind → Network → ℕ → List ℕ → List ℕ → ℕ
-spanBy added w c ps gs = addedCost w c (ps ++ gs)
-spanBy worst w c ps gs = worstCost w c (ps ++ gs)
-spanBy closing w c ps gs = closingCost w c ps

@@ -19,10 +19,7 @@ module _ (w : Network) (parts : ℕ) (inc : List ℕ) where
   shareBy sharers c r = pick (eqb (rowAt w r .street) 0) (costAt w c r * parts)
       (((costAt w c r - streetCost w c inc (rowAt w r .street)) * parts) / sharers (rowAt w r .street))
 
-  -- even among all usable rows of the street, and among those that cost more than inc has paid there
-  abbrev pub evenShare : List ℕ → ℕ → ℕ → ℕ
-  evenShare usable c r = shareBy (λ s. length (inStreet w s usable)) c r
-
+  -- even among the usable rows of the street that cost more than inc has paid there
   abbrev pub aboveShare : List ℕ → ℕ → ℕ → ℕ
   aboveShare usable c r = shareBy (λ s. length (aboveIn w inc usable c s)) c r
 

@@ -45,8 +45,7 @@ use Rattle.tally.specs.Tally.{costIn, kindOf, leadIn}
 use Rattle.tally.proofs.Same.{Tabled}
 use Rattle.tally.proofs.Tables.{inside-take}
 use Rattle.find.specs.Find.{Tables, graphIn}
-use Rattle.costing.specs.Costing.{costsIn, freeFlag, freeIn, isNode, kindsIn, leadAt, leadsIn, mustsIn, ordersIn, streetIn, tops}
-use Rattle.costing.proofs.Sorted.{order-all, order-rising}
+use Rattle.costing.specs.Costing.{costsIn, freeFlag, freeIn, isNode, kindsIn, leadAt, leadsIn, mustsIn, streetIn, tops}
 use Rattle.costing.proofs.Streets.{lead-own, lead-same, lead-street}
 
 -- The tables of the network
@@ -124,19 +123,15 @@ open-rows : (f : List ℕ) → length (openIn f .firstEnds) ≡ sizesOf f .m
 open-rows f = length-map (networkOf f .rows) (λ (row : Row). openEnd row (row .firstEnd)) ∙ rows-length f
 
 module _ (f : List ℕ) (a : Accepted f) where
-  -- TABLES: the sequences of its rows ascend by their costs
-  pub tables-in : Tables (openIn f .firstEnds) (openIn f .secondEnds) (sizesOf f .n) (sizesOf f .k) (costsIn f) (ordersIn (costsIn f) (length (openIn f .firstEnds)))
-  tables-in =
-      let few : length (openIn f .firstEnds) ≤ 256 = omega (arith, open-rows f, a .rows-high) in
-      record {
-        formed = rw (same-graph f) (open-formed-in f a);
-        small = a .nodes-high;
-        few-rows = few;
-        some-criteria = a .criteria-low;
-        few-criteria = a .criteria-high;
-        rising = λ c h. order-rising (costsIn f) (length (openIn f .firstEnds)) few c (omega (arith, a .criteria-high));
-        complete = λ c h r l. order-all (costsIn f) (length (openIn f .firstEnds)) few c r (omega (arith, a .criteria-high)) l;
-      }
+  -- TABLES
+  pub tables-in : Tables (openIn f .firstEnds) (openIn f .secondEnds) (sizesOf f .n) (sizesOf f .k)
+  tables-in = record {
+    formed = rw (same-graph f) (open-formed-in f a);
+    small = a .nodes-high;
+    few-rows = omega (arith, open-rows f, a .rows-high);
+    some-criteria = a .criteria-low;
+    few-criteria = a .criteria-high;
+  }
 
 -- The must rows
 

@@ -1,4 +1,3 @@
 pub mod Streets
 pub mod Turns
-pub mod Sorted
 pub mod Laws

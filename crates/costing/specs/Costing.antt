@@ -9,8 +9,6 @@ use Rattle.costs.specs.Costs.{costAt}
 use Rattle.costs.specs.Network.{rowAt}
 use Rattle.network_file.specs.File.{byteAt, networkOf}
 use Rattle.chosen.specs.Chosen.{rowsOn}
-use Rattle.tally.specs.Tally.{costIn}
-use Rattle.orders.specs.Orders.{sortedBy}
 
 -- the bytes of the kinds, four of them; 0 past the end of the file
 unfoldable pub kindsIn : List ℕ → List ℕ
@@ -39,19 +37,6 @@ leadAt f r = pick (eqb (streetIn f r) 0) r (firstFrom (inStreetOf f r) 0 r)
 
 unfoldable pub leadsIn : List ℕ → List ℕ
 leadsIn f = map (leadAt f) (range 0 256)
-
--- Orders
-
-unfoldable pub keysIn : List ℕ → ℕ → List ℕ
-keysIn costs c = map (costIn costs c) (range 0 256)
-
--- all row numbers, the first m sorted by their costs in criterion c
-unfoldable pub orderIn : List ℕ → ℕ → ℕ → List ℕ
-orderIn costs m c = sortedBy (keysIn costs c) (range 0 256) m
-
--- that of criterion c from place c * 256 on
-unfoldable pub ordersIn : List ℕ → ℕ → List ℕ
-ordersIn costs m = map (λ i. getD (orderIn costs m (i / 256)) (i % 256) 0) (range 0 1024)
 
 -- Rows
 

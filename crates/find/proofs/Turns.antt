@@ -7,7 +7,7 @@ use mathlib.Core.Option.{Option, none, some}
 use mathlib.Core.List.{List, [], _++_, _∷_, append-nil, List·Memᴰ·append-cases as append-cases, Memᴰ·append-left as append-left, Memᴰ·append-right as append-right, List·Memᴰ·head as here, List·Memᴰ·cases-cons as mem-cases, List·Memᴰ·not-nil as mem-nil, List·Memᴰ·tail as there}
 use Prim.Native.Nat.{_-_, _<_, suc, ℕ}
 use native.Mathlib.Omega.{arith}
-use lib.Dec.{T, ltb→lt}
+use lib.Dec.{T}
 use lib.ListN.{getD, length, length-append, length-map, length-set, set, take}
 use lib.Seq.{getD-take, length-take-le, take-all}
 use Rattle.lists.specs.Lists.{pick, range}
@@ -26,7 +26,7 @@ use Rattle.completions.specs.Greedy.{greedy}
 use Rattle.completions.specs.Labels.{labelsOf}
 use Rattle.completions.proofs.Boxes.{inside-at}
 use Rattle.completions.proofs.Find.{Answers, branch-in, branch-none, branch-out, choice-pivot, cost-at, only-none, same-rows, wider}
-use Rattle.chosen.specs.Chosen.{isOn, rowsOf, rowsOn}
+use Rattle.chosen.specs.Chosen.{rowsOf, rowsOn}
 use Rattle.chosen.proofs.Flags.{on-clear, on-distinct, on-fewer, on-mem}
 use Rattle.tally.specs.Tally.{kindOf, tableOf}
 use Rattle.tally.proofs.Tables.{kind-at, kind-table}
@@ -34,14 +34,13 @@ use Rattle.find.specs.declared.Found.{Found}
 use Rattle.find.specs.declared.Judged.{Judged}
 use Rattle.find.specs.Find.{Node, Tables, foundOf, graphIn}
 use Rattle.find.specs.Nodes.{Given, Judges, Reached, Sifted}
-use Rattle.find.proofs.Judging.{set-below}
 use Rattle.find.proofs.Sifting.{sifted-keeps, sifted-part}
 
 -- fewer usable rows
 pub node-part : {g : Graph} {k : ℕ} {limits inc usable us : List ℕ} → rowsOn us ⊆ rowsOn usable → Node g k limits inc usable → Node g k limits inc us
 node-part within n = record { forest = n .forest; lies = λ r m. n .lies r (within r m); open-past = n .open-past }
 
-module _ (firsts seconds : List ℕ) (limit k : ℕ) (kinds costs leads orders limits inc : List ℕ) where
+module _ (firsts seconds : List ℕ) (limit k : ℕ) (kinds costs leads limits inc : List ℕ) where
   abbrev g : Graph
   g = graphIn firsts seconds limit
 
@@ -51,15 +50,14 @@ module _ (firsts seconds : List ℕ) (limit k : ℕ) (kinds costs leads orders l
   abbrev lim : List ℕ
   lim = take k limits
 
-  module _ (tables : Tables firsts seconds limit k costs orders) where
-    pub given-of : (us labels : List ℕ) (need : ℕ) → Node g k limits inc us → length us ≡ 256 → labels ≡ labelsOf firsts seconds (range 0 33) inc → need ≡ limit - suc (length inc)
-        → Given firsts seconds limit k costs orders limits inc us need labels
-    given-of us labels need node size is-labels is-need = record {
+  module _ (tables : Tables firsts seconds limit k) where
+    pub given-of : (us labels : List ℕ) (need : ℕ) → Node g k limits inc us → labels ≡ labelsOf firsts seconds (range 0 33) inc → need ≡ limit - suc (length inc)
+        → Given firsts seconds limit k limits inc us need labels
+    given-of us labels need node is-labels is-need = record {
       tables = tables;
       node = node;
       labelled = is-labels;
       lacks = omega (arith, forest-size g (tables .formed) inc (node .forest), range-length 1 limit, is-need);
-      sized = omega (arith, size);
     }
 
     inc-low : Forest g inc → (r : ℕ) → r ∈ inc → r < 256
@@ -89,7 +87,7 @@ module _ (firsts seconds : List ℕ) (limit k : ℕ) (kinds costs leads orders l
   pub record Turn (us₀ us : List ℕ) : Type 0 where
     pub size : length us ≡ 256
     pub part : rowsOn us ⊆ rowsOn us₀
-    pub carries : Tables firsts seconds limit k costs orders → Node g k limits inc us₀ → (o : Option (List ℕ)) → Answers g w lim inc (rowsOn us) o → Answers g w lim inc (rowsOn us₀) o
+    pub carries : Tables firsts seconds limit k → Node g k limits inc us₀ → (o : Option (List ℕ)) → Answers g w lim inc (rowsOn us) o → Answers g w lim inc (rowsOn us₀) o
 
   pub turn-start : (us : List ℕ) → length us ≡ 256 → Turn us us
   turn-start us size = record { size = size; part = λ r m. m; carries = λ t n o h. h }
@@ -102,7 +100,7 @@ module _ (firsts seconds : List ℕ) (limit k : ℕ) (kinds costs leads orders l
     clear-part r m = left r .0 m .0
 
     -- the row is tried in
-    module _ (tables : Tables firsts seconds limit k costs orders) (node : Node g k limits inc us₀) (seq : List ℕ) (within : seq ⊆ rowsOn us) (m : at ∈ greedy g inc seq)
+    module _ (tables : Tables firsts seconds limit k) (node : Node g k limits inc us₀) (seq : List ℕ) (within : seq ⊆ rowsOn us) (m : at ∈ greedy g inc seq)
         (inc′ : List ℕ) (is-longer : inc′ ≡ take 31 (inc ++ (at ∷ []))) where
       here-node : Node g k limits inc us
       here-node = node-part (turn .part) node
@@ -137,12 +135,12 @@ module _ (firsts seconds : List ℕ) (limit k : ℕ) (kinds costs leads orders l
           (same-rows g w lim (at ∷ inc) inc′ (rowsOn (set us at 0)) back swapped once none h))
       carries-on h (some p) a = turn .carries tables node (some p) (branch-out g w lim inc (rowsOn us) (rowsOn (set us at 0)) at left p a)
 
-    pub turn-next : (Tables firsts seconds limit k costs orders → Node g k limits inc us₀ → (o : Option (List ℕ)) → Answers g w lim inc (rowsOn (set us at 0)) o → Answers g w lim inc (rowsOn us₀) o)
+    pub turn-next : (Tables firsts seconds limit k → Node g k limits inc us₀ → (o : Option (List ℕ)) → Answers g w lim inc (rowsOn (set us at 0)) o → Answers g w lim inc (rowsOn us₀) o)
         → Turn us₀ (set us at 0)
     turn-next h = record { size = length-set us at 0 ∙ turn .size; part = λ r m. turn .part r (clear-part r m); carries = h }
 
   -- the row of an unsettled choice is tried in
-  module _ (us₀ us : List ℕ) (turn : Turn us₀ us) (tables : Tables firsts seconds limit k costs orders) (node : Node g k limits inc us₀) (j : Judged)
+  module _ (us₀ us : List ℕ) (turn : Turn us₀ us) (tables : Tables firsts seconds limit k) (node : Node g k limits inc us₀) (j : Judged)
       (judges : Judges g w lim inc (rowsOn us) j) (open-still : j .closed ≡ false) (none-yet : j .found ≡ false) (at : ℕ) (m : at ∈ rowsOf (j .rows)) (low : at < 256)
       (inc′ : List ℕ) (is-longer : inc′ ≡ take 31 (inc ++ (at ∷ []))) where
     pub step-node : Node g k limits inc′ (set us at 0)
@@ -165,7 +163,7 @@ module _ (firsts seconds : List ℕ) (limit k : ℕ) (kinds costs leads orders l
         (subst (Answers g w lim inc′ (rowsOn (set us at 0))) (ap (λ (b : Bool). pick b (some (rowsOf (f .rows))) none) e) h)
 
   -- nothing is missing, and the rows that are in are not inside
-  pub full-none : {us labels : List ℕ} {need : ℕ} → Given firsts seconds limit k costs orders limits inc us need labels → need ≡ 0 → (rows : List ℕ) → length rows ≡ need
+  pub full-none : {us labels : List ℕ} {need : ℕ} → Given firsts seconds limit k limits inc us need labels → need ≡ 0 → (rows : List ℕ) → length rows ≡ need
       → ¬ T (inside lim (costOf w (inc ++ rows))) → Answers g w lim inc (rowsOn us) none
   full-none given e rows size n = only-none g w lim inc _ (omega (arith, given .lacks, e, range-length 1 limit))
       (λ t. n (subst (λ (x : List ℕ). T (inside lim (costOf w x))) (sym (append-nil inc) ∙ ap (λ (x : List ℕ). inc ++ x) (sym (empty rows (omega (arith, size, e))))) t))
@@ -176,23 +174,19 @@ module _ (firsts seconds : List ℕ) (limit k : ℕ) (kinds costs leads orders l
 
   -- at a turn, what is told of the usable rows that are left tells of all that were lent
   module _ (four : length kinds ≡ 4) {usable us₀ us : List ℕ} (s : Sifted (λ r. Reached kinds k costs leads limits (r ∷ inc)) usable us₀) (turn : Turn us₀ us)
-      (tables : Tables firsts seconds limit k costs orders) (node : Node g k limits inc usable) where
+      (tables : Tables firsts seconds limit k) (node : Node g k limits inc usable) where
     pub first-node : Node g k limits inc us₀
     first-node = node-part (sifted-part _ usable us₀ s) node
 
     pub turn-given : {labels : List ℕ} {need : ℕ} → labels ≡ labelsOf firsts seconds (range 0 33) inc → need ≡ limit - suc (length inc)
-        → Given firsts seconds limit k costs orders limits inc us need labels
-    turn-given is-labels is-need = given-of tables us _ _ (node-part (turn .part) first-node) (turn .size) is-labels is-need
+        → Given firsts seconds limit k limits inc us need labels
+    turn-given is-labels is-need = given-of tables us _ _ (node-part (turn .part) first-node) is-labels is-need
 
     pub tells : (o : Option (List ℕ)) → Answers g w lim inc (rowsOn us) o → Answers g w lim inc (rowsOn usable) o
     tells o h = fitted tables four usable us₀ node s o (turn .carries tables first-node o h)
 
     pub tells-first : (o : Option (List ℕ)) → Answers g w lim inc (rowsOn us₀) o → Answers g w lim inc (rowsOn usable) o
     tells-first o h = fitted tables four usable us₀ node s o h
-
--- a row whose flag is set
-pub on-row : (us : List ℕ) → length us ≡ 256 → (at : ℕ) → T (isOn us at) → at ∈ rowsOn us
-on-row us size at t = let h = ltb→lt 0 (getD us at 0) t in on-mem us at .1 (omega (arith, set-below us at h, size), h)
 
 -- without it fewer rows are usable than were lent
 pub rows-fall : (Bad : ℕ → Type 0) (usable us₀ us : List ℕ) (at : ℕ) → Sifted Bad usable us₀ → rowsOn us ⊆ rowsOn us₀ → length us ≡ 256 → at ∈ rowsOn us

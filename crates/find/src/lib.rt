@@ -1,17 +1,19 @@
 //! Find: a spanning tree whose cost vector is inside limits, by a search over rows that are in or out, in free order.
-//! A node of the search is the rows that are in and the usable rows. It is settled by greedy choices among the usable rows, or else split at a row of the
-//! last choice: first in, by recursion, then out, in the loop. Which tree is found is left open; that one is found exactly if there is one is not.
+//! A node of the search is the rows that are in and the usable rows. It is settled by the lightest choice among the usable rows, for a sum of the criteria with factors,
+//! or else split at a row of that choice: first in, by recursion, then out, in the loop. The factors are tuned from choice to choice; any would do.
+//! Which tree is found is left open; that one is found exactly if there is one is not.
 ghost use mathlib.Core.Path.{_≡_};
-ghost use mathlib.Core.List.{List, _∷_};
+ghost use mathlib.Core.List.{_∷_};
 ghost use Prim.Native.Nat.{_+_, _-_, _<_, _≤_, suc, ℕ};
 ghost use lib.Dec.{leb};
 ghost use lib.ListN.{getD, length, take};
 ghost use Rattle.lists.proofs.Members.{_∈_};
+ghost use Rattle.completions.specs.Labels.{chooseFew};
 ghost use Rattle.completions.proofs.Find.{Answers};
 ghost use Rattle.chosen.specs.Chosen.{rowsOf, rowsOn};
 ghost use Rattle.tally.specs.Tally.{closingIn, costIn, kindCost, leadIn, tableOf};
-ghost use Rattle.find.specs.Find.{Node, Tables, foundOf, graphIn, orderAt};
-ghost use Rattle.find.specs.Nodes.{Given, Judges, Reached, Sifted, Usable, Verdict, boundIn};
+ghost use Rattle.find.specs.Find.{Node, Tables, foundOf, graphIn};
+ghost use Rattle.find.specs.Nodes.{Given, Judges, Reached, Settles, Sifted, Usable, rowsBy};
 use chosen::Chosen;
 
 /// A tree that may be missing.
@@ -20,11 +22,12 @@ pub struct Found {
     pub rows: Chosen,
 }
 
-// What greedy choices say of a node: it is closed, a tree is found, or neither; then the last choice.
+// What the lightest choice says of a node: it is closed, a tree is found, or neither; then the choice, and factors for the next one.
 struct Judged {
     closed: bool,
     found: bool,
     rows: Chosen,
+    factors: [u16; 4],
 }
 
 // Whether a cost added to what is there reaches the limit.
@@ -154,128 +157,91 @@ fn missing(limit: u8, inc: Chosen) -> usize
     if have < nodes { nodes - have } else { 0 }
 }
 
-// The least that a tree of the node costs in a criterion: what its choice makes, but for closing what is paid already.
-fn bound_of(kind: u8, costs: &[u32], leads: &[u8], c: u8, inc: Chosen, all: Chosen) -> u64
-    ensures { λ r. ⌜ r ≡ boundIn kind (now (costs .entry)) (now (leads .entry)) c (rowsOf inc) (rowsOf all) ⌝ }
-{
-    match kind {
-        0..=1 => tally::cost_of(kind, costs, leads, c, all),
-        2..=255 => tally::cost_of(kind, costs, leads, c, inc),
-    }
-}
-
-// The sequence of m rows that ascends by criterion c; none where there is no such criterion.
-fn order_of(orders: &[u8], c: u8, m: usize) -> &[u8]
-    ensures { λ r. ⌜ now r ≡ orderAt (now (orders .entry)) c m ⌝ }
-{
-    let at = c as usize * 256;
-    if orders.len() < at {
-        return &orders[..0];
-    }
-    if orders.len() - at < m {
-        return &orders[..0];
-    }
-    let end = at + m;
-    &orders[at..end]
-}
-
-// What the greedy choice of one criterion says.
-fn judge_by(
+// The lightest choice: greedy among the usable rows by their weights.
+fn lightest(
     firsts: &[u8],
     seconds: &[u8],
+    weights: &[u64],
+    flags: &[u8],
+    need: usize,
+    labels: [u8; 33],
+) -> Chosen
+    ensures { λ r. ⌜ rowsOf r ≡ take 31 (chooseFew (now (firsts .entry)) (now (seconds .entry)) need labels (rowsBy (now (weights .entry)) (now (flags .entry)))) ⌝ }
+{
+    let order = orders::sorted(weights, flags);
+    let rows = order.rows;
+    labels::choose(firsts, seconds, &rows[..order.len], flags, need, labels)
+}
+
+// Twice a factor, as far as it goes.
+fn doubled(factor: u16) -> u16 {
+    if factor < 32768 { factor * 2 } else { 65535 }
+}
+
+// Half a factor; one that counts goes on counting.
+fn halved(factor: u16) -> u16 {
+    if factor < 2 { factor } else { factor / 2 }
+}
+
+// The next factor of a criterion: beside the others it is doubled if the last choice reaches its limit.
+fn tuned_factor(factor: u16, reached: bool, large: bool) -> u16 {
+    if reached {
+        return if large { factor } else { doubled(factor) };
+    }
+    if large { halved(factor) } else { factor }
+}
+
+fn larger(a: u16, b: u16) -> u16 {
+    if a < b { b } else { a }
+}
+
+// The factors for the next choice, once the last one costs v.
+fn tuned(limits: [u64; 4], v: [u64; 4], factors: [u16; 4]) -> [u16; 4] {
+    let most = larger(
+        larger(factors[0], factors[1]),
+        larger(factors[2], factors[3]),
+    );
+    let large = 32767 < most;
+    [
+        tuned_factor(factors[0], limits[0] <= v[0], large),
+        tuned_factor(factors[1], limits[1] <= v[1], large),
+        tuned_factor(factors[2], limits[2] <= v[2], large),
+        tuned_factor(factors[3], limits[3] <= v[3], large),
+    ]
+}
+
+// What a whole choice that is not too heavy says: it is a tree inside the limits, or it is not.
+fn settled(
     kinds: [u8; 4],
     k: u8,
     costs: &[u32],
     leads: &[u8],
-    order: &[u8],
     limits: [u64; 4],
     inc: Chosen,
-    flags: &[u8],
-    need: usize,
-    labels: [u8; 33],
-    kind: u8,
-    c: u8,
-    limit: u64,
+    chosen: Chosen,
+    factors: [u16; 4],
 ) -> Judged
-    ensures { λ r. ⌜ Usable (now (flags .entry)) need r × ((nodes : ℕ) (orders : List ℕ) → Given (now (firsts .entry)) (now (seconds .entry)) nodes k (now (costs .entry)) orders limits (rowsOf inc) (now (flags .entry)) need labels → c < k → kind ≡ getD kinds c 0 → limit ≡ getD limits c 0 → now (order .entry) ≡ orderAt orders c (length (now (firsts .entry))) → Judges (graphIn (now (firsts .entry)) (now (seconds .entry)) nodes) (tableOf kinds k (now (costs .entry)) (now (leads .entry))) (take k limits) (rowsOf inc) (rowsOn (now (flags .entry))) r) ⌝ }
+    ensures { λ r. ⌜ Settles kinds k (now (costs .entry)) (now (leads .entry)) limits (rowsOf inc) (rowsOf chosen) r ⌝ }
 {
-    let chosen = labels::choose(firsts, seconds, order, flags, need, labels);
-    if chosen.count() != need {
-        return Judged {
-            closed: true,
-            found: false,
-            rows: chosen,
-        };
-    }
     let all = inc.joined(chosen);
-    if limit <= bound_of(kind, costs, leads, c, inc, all) {
-        return Judged {
-            closed: true,
-            found: false,
-            rows: chosen,
-        };
-    }
-    if tally::inside(limits, tally::vector(kinds, k, costs, leads, all)) {
+    let v = tally::vector(kinds, k, costs, leads, all);
+    if tally::inside(limits, v) {
         return Judged {
             closed: false,
             found: true,
             rows: all,
+            factors: factors,
         };
     }
     Judged {
         closed: false,
         found: false,
         rows: chosen,
+        factors: tuned(limits, v, factors),
     }
 }
 
-// What the choice of criterion c says, if it is an added one; else what was said before.
-fn judge_next(
-    firsts: &[u8],
-    seconds: &[u8],
-    kinds: [u8; 4],
-    k: u8,
-    costs: &[u32],
-    leads: &[u8],
-    orders: &[u8],
-    limits: [u64; 4],
-    inc: Chosen,
-    flags: &[u8],
-    need: usize,
-    labels: [u8; 33],
-    last: Judged,
-    c: u8,
-) -> Judged
-    ensures { λ r. ⌜ (Verdict (now (firsts .entry)) (now (seconds .entry)) kinds k (now (costs .entry)) (now (leads .entry)) (now (orders .entry)) limits (rowsOf inc) (now (flags .entry)) need labels last → Verdict (now (firsts .entry)) (now (seconds .entry)) kinds k (now (costs .entry)) (now (leads .entry)) (now (orders .entry)) limits (rowsOf inc) (now (flags .entry)) need labels r) ⌝ }
-{
-    let at = c as usize;
-    if at < 4 {
-        if c < k {
-            if kinds[at] == 0 {
-                return judge_by(
-                    firsts,
-                    seconds,
-                    kinds,
-                    k,
-                    costs,
-                    leads,
-                    order_of(orders, c, firsts.len()),
-                    limits,
-                    inc,
-                    flags,
-                    need,
-                    labels,
-                    kinds[at],
-                    c,
-                    limits[at],
-                );
-            }
-        }
-    }
-    last
-}
-
-// What the choices say: of the first criterion, and then of each added one.
+// What the lightest choice says.
 fn judge(
     firsts: &[u8],
     seconds: &[u8],
@@ -283,59 +249,35 @@ fn judge(
     k: u8,
     costs: &[u32],
     leads: &[u8],
-    orders: &[u8],
     limits: [u64; 4],
     inc: Chosen,
     flags: &[u8],
     need: usize,
     labels: [u8; 33],
+    factors: [u16; 4],
 ) -> Judged
-    ensures { λ r. ⌜ Verdict (now (firsts .entry)) (now (seconds .entry)) kinds k (now (costs .entry)) (now (leads .entry)) (now (orders .entry)) limits (rowsOf inc) (now (flags .entry)) need labels r ⌝ }
+    ensures { λ r. ⌜ Usable (now (flags .entry)) need r × ((nodes : ℕ) → Given (now (firsts .entry)) (now (seconds .entry)) nodes k limits (rowsOf inc) (now (flags .entry)) need labels → Judges (graphIn (now (firsts .entry)) (now (seconds .entry)) nodes) (tableOf kinds k (now (costs .entry)) (now (leads .entry))) (take k limits) (rowsOf inc) (rowsOn (now (flags .entry))) r) ⌝ }
 {
-    let mut judged = judge_by(
-        firsts,
-        seconds,
-        kinds,
-        k,
-        costs,
-        leads,
-        order_of(orders, 0, firsts.len()),
-        limits,
-        inc,
-        flags,
-        need,
-        labels,
-        kinds[0],
-        0,
-        limits[0],
-    );
-    let mut c: u8 = 1;
-    while c < 4 {
-        if judged.closed {
-            return judged;
-        }
-        if judged.found {
-            return judged;
-        }
-        judged = judge_next(
-            firsts,
-            seconds,
-            kinds,
-            k,
-            costs,
-            leads,
-            orders,
-            limits,
-            inc,
-            flags,
-            need,
-            labels,
-            judged,
-            c,
-        );
-        c += 1;
+    let weights = weighing::weights(kinds, k, costs, leads, limits, inc, flags, factors);
+    let chosen = lightest(firsts, seconds, &weights, flags, need, labels);
+    if chosen.count() != need {
+        return Judged {
+            closed: true,
+            found: false,
+            rows: chosen,
+            factors: factors,
+        };
     }
-    judged
+    let left = room::room(kinds, k, costs, leads, limits, inc, factors);
+    if room::exceed(&weights, left, chosen) {
+        return Judged {
+            closed: true,
+            found: false,
+            rows: chosen,
+            factors: factors,
+        };
+    }
+    settled(kinds, k, costs, leads, limits, inc, chosen, factors)
 }
 
 // The first closing criterion; k where there is none.
@@ -371,7 +313,7 @@ fn pivot(kinds: [u8; 4], k: u8, costs: &[u32], leads: &[u8], inc: Chosen, rows: 
         } else {
             0
         };
-        let score = more as u64 * 100 + tally::cost_at(costs, 0, r) as u64;
+        let score = more as u64 * 4294967296 + tally::cost_at(costs, 0, r) as u64;
         if most < score {
             best = r;
             most = score;
@@ -380,8 +322,68 @@ fn pivot(kinds: [u8; 4], k: u8, costs: &[u32], leads: &[u8], inc: Chosen, rows: 
     best
 }
 
-/// A tree with the rows `inc` and others of the usable rows, inside the limits, or that there is none.
-pub fn find(
+// No limit of a search is larger than this one, which no tree reaches.
+const TOP: u64 = 33554432;
+
+// Whether a criterion adds up.
+fn adds(kind: u8, c: u8, k: u8) -> bool {
+    if c < k { kind != 1 } else { false }
+}
+
+// The least limit so far and of one more criterion, if it adds up.
+fn lower(least: u64, adds: bool, limit: u64) -> u64
+    ensures { λ r. ⌜ r ≤ least ⌝ }
+{
+    if adds {
+        if limit < least { limit } else { least }
+    } else {
+        least
+    }
+}
+
+// The first factor of a criterion that adds up: the smaller its limit, the larger; none where only others have a limit.
+fn first_factor(least: u64, adds: bool, limit: u64) -> u16
+    requires { ⌜ least ≤ 33554432 ⌝ }
+{
+    if adds {
+        if least == TOP {
+            return 1;
+        }
+        if TOP <= limit {
+            return 0;
+        }
+        let factor = 20000 * least / (limit + 1);
+        if factor == 0 {
+            return 1;
+        }
+        if factor < 65536 {
+            return factor as u16;
+        }
+        return 65535;
+    }
+    0
+}
+
+// The factors for the first choice of a search.
+fn first_factors(kinds: [u8; 4], k: u8, limits: [u64; 4]) -> [u16; 4] {
+    let zero = adds(kinds[0], 0, k);
+    let one = adds(kinds[1], 1, k);
+    let two = adds(kinds[2], 2, k);
+    let three = adds(kinds[3], 3, k);
+    let first = lower(TOP, zero, limits[0]);
+    let second = lower(first, one, limits[1]);
+    let third = lower(second, two, limits[2]);
+    let least = lower(third, three, limits[3]);
+    [
+        first_factor(least, zero, limits[0]),
+        first_factor(least, one, limits[1]),
+        first_factor(least, two, limits[2]),
+        first_factor(least, three, limits[3]),
+    ]
+}
+
+// The same, with factors for the first choice.
+fn search(
     firsts: &[u8],
     seconds: &[u8],
     limit: u8,
@@ -389,15 +391,16 @@ pub fn find(
     k: u8,
     costs: &[u32],
     leads: &[u8],
-    orders: &[u8],
     limits: [u64; 4],
     inc: Chosen,
     usable: [u8; 256],
+    first: [u16; 4],
 ) -> Found
-    ensures { λ r. ⌜ (Tables (now (firsts .entry)) (now (seconds .entry)) limit k (now (costs .entry)) (now (orders .entry)) → Node (graphIn (now (firsts .entry)) (now (seconds .entry)) limit) k limits (rowsOf inc) usable → Answers (graphIn (now (firsts .entry)) (now (seconds .entry)) limit) (tableOf kinds k (now (costs .entry)) (now (leads .entry))) (take k limits) (rowsOf inc) (rowsOn usable) (foundOf r)) ⌝ }
+    ensures { λ r. ⌜ (Tables (now (firsts .entry)) (now (seconds .entry)) limit k → Node (graphIn (now (firsts .entry)) (now (seconds .entry)) limit) k limits (rowsOf inc) usable → Answers (graphIn (now (firsts .entry)) (now (seconds .entry)) limit) (tableOf kinds k (now (costs .entry)) (now (leads .entry))) (take k limits) (rowsOf inc) (rowsOn usable) (foundOf r)) ⌝ }
 {
     let labels = labels::labels_of(firsts, seconds, inc);
     let need = missing(limit, inc);
+    let mut factors = first;
     let mut us = fitting(kinds, k, costs, leads, firsts.len(), limits, inc, usable);
     loop {
         let judged = judge(
@@ -407,12 +410,12 @@ pub fn find(
             k,
             costs,
             leads,
-            orders,
             limits,
             inc,
             &us,
             need,
             labels,
+            factors,
         );
         if judged.closed {
             return Found {
@@ -434,9 +437,11 @@ pub fn find(
             };
         }
         let choice = judged.rows;
+        let next = judged.factors;
+        factors = next;
         let at = pivot(kinds, k, costs, leads, inc, choice);
         us[at as usize] = 0;
-        let taken = find(
+        let taken = search(
             firsts,
             seconds,
             limit,
@@ -444,13 +449,43 @@ pub fn find(
             k,
             costs,
             leads,
-            orders,
             limits,
             inc.extended(at),
             us,
+            factors,
         );
         if taken.some {
             return taken;
         }
     }
+}
+
+/// A tree with the rows `inc` and others of the usable rows, inside the limits, or that there is none.
+pub fn find(
+    firsts: &[u8],
+    seconds: &[u8],
+    limit: u8,
+    kinds: [u8; 4],
+    k: u8,
+    costs: &[u32],
+    leads: &[u8],
+    limits: [u64; 4],
+    inc: Chosen,
+    usable: [u8; 256],
+) -> Found
+    ensures { λ r. ⌜ (Tables (now (firsts .entry)) (now (seconds .entry)) limit k → Node (graphIn (now (firsts .entry)) (now (seconds .entry)) limit) k limits (rowsOf inc) usable → Answers (graphIn (now (firsts .entry)) (now (seconds .entry)) limit) (tableOf kinds k (now (costs .entry)) (now (leads .entry))) (take k limits) (rowsOf inc) (rowsOn usable) (foundOf r)) ⌝ }
+{
+    search(
+        firsts,
+        seconds,
+        limit,
+        kinds,
+        k,
+        costs,
+        leads,
+        limits,
+        inc,
+        usable,
+        first_factors(kinds, k, limits),
+    )
 }

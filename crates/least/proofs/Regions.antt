@@ -103,11 +103,11 @@ some-component known k at c h = elim (decLt c k) [
 ]
 
 -- On a ground: the search goes on
-module _ (firsts seconds : List ℕ) (limit : ℕ) (kinds : List ℕ) (k : ℕ) (costs leads orders musts free known limits from : List ℕ) (start : Best) where
+module _ (firsts seconds : List ℕ) (limit : ℕ) (kinds : List ℕ) (k : ℕ) (costs leads musts free known limits from : List ℕ) (start : Best) where
   abbrev On : List ℕ → ((List ℕ → Type 0) → Type 0) → Type 0
-  On tops Holds = OnGround firsts seconds limit kinds k costs leads orders musts free tops Holds
+  On tops Holds = OnGround firsts seconds limit kinds k costs leads musts free tops Holds
 
-  abbrev Vs : Ground firsts seconds limit k costs orders musts free → List ℕ → Type 0
+  abbrev Vs : Ground firsts seconds limit k musts free → List ℕ → Type 0
   Vs ground = Of (graphIn firsts seconds limit) (ground .tables .formed) (tableOf kinds k costs leads) musts
 
   abbrev Whole : Best → Type 0

@@ -35,7 +35,7 @@ use Rattle.least.specs.Least.{Ground, OnGround, OpenPast, leastOf}
 use Rattle.least.specs.declared.Best.{Best}
 
 -- ASKED: what is found is the vector of a tree with all must rows, and all of those are found
-module _ (firsts seconds : List ℕ) (limit : ℕ) (kinds : List ℕ) (k : ℕ) (costs leads orders musts free limits : List ℕ) where
+module _ (firsts seconds : List ℕ) (limit : ℕ) (kinds : List ℕ) (k : ℕ) (costs leads musts free limits : List ℕ) where
   abbrev g : Graph
   g = graphIn firsts seconds limit
 
@@ -43,8 +43,8 @@ module _ (firsts seconds : List ℕ) (limit : ℕ) (kinds : List ℕ) (k : ℕ) 
   w = tableOf kinds k costs leads
 
   pub vector-asked : length kinds ≡ 4 → (found : Found) (v : List ℕ) → v ≡ vectorIn kinds k costs leads (rowsOf (found .rows))
-      → (Tables firsts seconds limit k costs orders → Node g k limits musts free → Answers g w (take k limits) musts (rowsOn free) (foundOf found))
-      → OnGround firsts seconds limit kinds k costs leads orders musts free limits (λ Of. Asked Of (take k limits) (pick (found .some) (some (take k v)) none))
+      → (Tables firsts seconds limit k → Node g k limits musts free → Answers g w (take k limits) musts (rowsOn free) (foundOf found))
+      → OnGround firsts seconds limit kinds k costs leads musts free limits (λ Of. Asked Of (take k limits) (pick (found .some) (some (take k v)) none))
   vector-asked four found v e answers ground past =
       by (found .some) (answers (ground .tables) (record { forest = ground .forest; lies = ground .lies; open-past = past }))
     where
@@ -180,11 +180,11 @@ module _ (Of : List ℕ → Type 0) (k : ℕ) (limits : List ℕ) (four : length
           (lowered-kept Of (take k limits) v some-tops u (least-of (some u) (there-is k next n)) (T-false (vectorLess u v) .1 l))
 
 -- The same on a ground
-module _ (firsts seconds : List ℕ) (limit : ℕ) (kinds : List ℕ) (k : ℕ) (costs leads orders musts free limits : List ℕ) (four : length limits ≡ 4) where
+module _ (firsts seconds : List ℕ) (limit : ℕ) (kinds : List ℕ) (k : ℕ) (costs leads musts free limits : List ℕ) (four : length limits ≡ 4) where
   abbrev On : List ℕ → ((List ℕ → Type 0) → Type 0) → Type 0
-  On tops Holds = OnGround firsts seconds limit kinds k costs leads orders musts free tops Holds
+  On tops Holds = OnGround firsts seconds limit kinds k costs leads musts free tops Holds
 
-  abbrev Vs : Ground firsts seconds limit k costs orders musts free → List ℕ → Type 0
+  abbrev Vs : Ground firsts seconds limit k musts free → List ℕ → Type 0
   Vs ground = Of (graphIn firsts seconds limit) (ground .tables .formed) (tableOf kinds k costs leads) musts
 
   module _ (c : ℕ) (v : List ℕ) (next : Best) (lower : List ℕ) (e : lower ≡ set limits c (getD v c 0)) (asked : On lower (λ Of. Asked Of (take k lower) (leastOf k next))) where

@@ -19,8 +19,8 @@ use Rattle.find.specs.Find.{Tables, graphIn}
 use Rattle.least.specs.declared.Best.{Best}
 
 -- the tables of a search, must rows that make no ring, and flags of the other rows that lie between nodes
-pub record Ground (firsts seconds : List ℕ) (limit k : ℕ) (costs orders musts free : List ℕ) : Type 0 where
-  pub tables : Tables firsts seconds limit k costs orders
+pub record Ground (firsts seconds : List ℕ) (limit k : ℕ) (musts free : List ℕ) : Type 0 where
+  pub tables : Tables firsts seconds limit k
   pub forest : Forest (graphIn firsts seconds limit) musts
   pub lies : (r : ℕ) → r ∈ rowsOn free → Lies (graphIn firsts seconds limit) r
   pub all-free : (r : ℕ) → Lies (graphIn firsts seconds limit) r → ¬ (r ∈ musts) → r ∈ rowsOn free
@@ -30,9 +30,9 @@ abbrev pub OpenPast : ℕ → List ℕ → Type 0
 OpenPast k limits = (c : ℕ) → k ≤ c → c < 4 → 0 < getD limits c 0
 
 -- what holds of the vectors of the trees with all must rows, on such a ground and with such limits
-abbrev pub OnGround : (firsts seconds : List ℕ) (limit : ℕ) (kinds : List ℕ) (k : ℕ) (costs leads orders musts free limits : List ℕ) → ((List ℕ → Type 0) → Type 0) → Type 0
-OnGround firsts seconds limit kinds k costs leads orders musts free limits Holds =
-    (ground : Ground firsts seconds limit k costs orders musts free) → OpenPast k limits
+abbrev pub OnGround : (firsts seconds : List ℕ) (limit : ℕ) (kinds : List ℕ) (k : ℕ) (costs leads musts free limits : List ℕ) → ((List ℕ → Type 0) → Type 0) → Type 0
+OnGround firsts seconds limit kinds k costs leads musts free limits Holds =
+    (ground : Ground firsts seconds limit k musts free) → OpenPast k limits
     → Holds (Of (graphIn firsts seconds limit) (ground .tables .formed) (tableOf kinds k costs leads) musts)
 
 -- the vector of k criteria

@@ -26,12 +26,11 @@ fn vector_in(
     k: u8,
     costs: &[u32],
     leads: &[u8],
-    orders: &[u8],
     musts: Chosen,
     free: [u8; 256],
     limits: [u64; 4],
 ) -> Best
-    ensures { λ r. ⌜ OnGround (now (firsts .entry)) (now (seconds .entry)) limit kinds k (now (costs .entry)) (now (leads .entry)) (now (orders .entry)) (rowsOf musts) free limits (λ Of. Asked Of (take k limits) (leastOf k r)) ⌝ }
+    ensures { λ r. ⌜ OnGround (now (firsts .entry)) (now (seconds .entry)) limit kinds k (now (costs .entry)) (now (leads .entry)) (rowsOf musts) free limits (λ Of. Asked Of (take k limits) (leastOf k r)) ⌝ }
 {
     let found = find::find(
         firsts,
@@ -41,7 +40,6 @@ fn vector_in(
         k,
         costs,
         leads,
-        orders,
         limits,
         musts,
         free,
@@ -73,14 +71,13 @@ fn lowered(
     k: u8,
     costs: &[u32],
     leads: &[u8],
-    orders: &[u8],
     musts: Chosen,
     free: [u8; 256],
     limits: [u64; 4],
     start: [u64; 4],
     c: usize,
 ) -> [u64; 4]
-    ensures { λ r. ⌜ OnGround (now (firsts .entry)) (now (seconds .entry)) limit kinds k (now (costs .entry)) (now (leads .entry)) (now (orders .entry)) (rowsOf musts) free limits (λ Of. (c < k → Of (take k start) → T (inside (take k limits) (take k start)) → Lowest Of (take k limits) c (take k r))) ⌝ }
+    ensures { λ r. ⌜ OnGround (now (firsts .entry)) (now (seconds .entry)) limit kinds k (now (costs .entry)) (now (leads .entry)) (rowsOf musts) free limits (λ Of. (c < k → Of (take k start) → T (inside (take k limits) (take k start)) → Lowest Of (take k limits) c (take k r))) ⌝ }
 {
     let mut v = start;
     if 4 <= c {
@@ -96,7 +93,6 @@ fn lowered(
             k,
             costs,
             leads,
-            orders,
             musts,
             free,
             with_limit(limits, c, here),
@@ -136,12 +132,11 @@ fn least_inside(
     k: u8,
     costs: &[u32],
     leads: &[u8],
-    orders: &[u8],
     musts: Chosen,
     free: [u8; 256],
     limits: [u64; 4],
 ) -> Best
-    ensures { λ r. ⌜ OnGround (now (firsts .entry)) (now (seconds .entry)) limit kinds k (now (costs .entry)) (now (leads .entry)) (now (orders .entry)) (rowsOf musts) free limits (λ Of. LeastIn Of (take k limits) (leastOf k r)) ⌝ }
+    ensures { λ r. ⌜ OnGround (now (firsts .entry)) (now (seconds .entry)) limit kinds k (now (costs .entry)) (now (leads .entry)) (rowsOf musts) free limits (λ Of. LeastIn Of (take k limits) (leastOf k r)) ⌝ }
 {
     let first = vector_in(
         firsts,
@@ -151,7 +146,6 @@ fn least_inside(
         k,
         costs,
         leads,
-        orders,
         musts,
         free,
         limits,
@@ -172,7 +166,6 @@ fn least_inside(
             k,
             costs,
             leads,
-            orders,
             musts,
             free,
             lower,
@@ -215,13 +208,12 @@ fn lesser(
     k: u8,
     costs: &[u32],
     leads: &[u8],
-    orders: &[u8],
     musts: Chosen,
     free: [u8; 256],
     limits: [u64; 4],
     best: Best,
 ) -> Best
-    ensures { λ r. ⌜ OnGround (now (firsts .entry)) (now (seconds .entry)) limit kinds k (now (costs .entry)) (now (leads .entry)) (now (orders .entry)) (rowsOf musts) free limits (λ Of. Lowered Of (Box (take k limits)) (Box (take k limits)) (leastOf k best) (leastOf k r)) ⌝ }
+    ensures { λ r. ⌜ OnGround (now (firsts .entry)) (now (seconds .entry)) limit kinds k (now (costs .entry)) (now (leads .entry)) (rowsOf musts) free limits (λ Of. Lowered Of (Box (take k limits)) (Box (take k limits)) (leastOf k best) (leastOf k r)) ⌝ }
 {
     if best.some {} else {
         return least_inside(
@@ -232,7 +224,6 @@ fn lesser(
             k,
             costs,
             leads,
-            orders,
             musts,
             free,
             limits,
@@ -248,7 +239,6 @@ fn lesser(
         k,
         costs,
         leads,
-        orders,
         musts,
         free,
         with_limit(limits, 0, top),
@@ -327,7 +317,6 @@ pub fn least(
     k: u8,
     costs: &[u32],
     leads: &[u8],
-    orders: &[u8],
     musts: Chosen,
     free: [u8; 256],
     known: &[u32],
@@ -335,7 +324,7 @@ pub fn least(
     from: [u64; 4],
     start: Best,
 ) -> Best
-    ensures { λ r. ⌜ OnGround (now (firsts .entry)) (now (seconds .entry)) limit kinds k (now (costs .entry)) (now (leads .entry)) (now (orders .entry)) (rowsOf musts) free limits (λ Of. Lowered Of (Open (knownRows k (now (known .entry))) (take k limits)) (Region (knownRows k (now (known .entry))) from (take k limits)) (leastOf k start) (leastOf k r)) ⌝ }
+    ensures { λ r. ⌜ OnGround (now (firsts .entry)) (now (seconds .entry)) limit kinds k (now (costs .entry)) (now (leads .entry)) (rowsOf musts) free limits (λ Of. Lowered Of (Open (knownRows k (now (known .entry))) (take k limits)) (Region (knownRows k (now (known .entry))) from (take k limits)) (leastOf k start) (leastOf k r)) ⌝ }
 {
     let mut best = start;
     let mut lows = from;
@@ -351,7 +340,6 @@ pub fn least(
                 k,
                 costs,
                 leads,
-                orders,
                 musts,
                 free,
                 lower,
@@ -371,7 +359,6 @@ pub fn least(
                 k,
                 costs,
                 leads,
-                orders,
                 musts,
                 free,
                 with_limit(lower, 1, one),
@@ -396,7 +383,6 @@ pub fn least(
             k,
             costs,
             leads,
-            orders,
             musts,
             free,
             known,

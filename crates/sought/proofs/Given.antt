@@ -4,7 +4,7 @@ use mathlib.Core.List.{List, [], _∷_, List·Memᴰ·head as here, map, List·M
 use Prim.Native.Nat.{_-_, ℕ}
 use native.Mathlib.Omega.{arith}
 use lib.Dec.{T}
-use lib.ListN.{length, take}
+use lib.ListN.{take}
 use Rattle.lists.specs.Lists.{first, firstWith}
 use Rattle.lists.proofs.Members.{_∈_}
 use Rattle.checks.specs.Checks.{Outcome}
@@ -35,7 +35,7 @@ use Rattle.tally.specs.Tally.{tableOf}
 use Rattle.tally.proofs.Same.{same-cost}
 use Rattle.tally.proofs.Tables.{map-same}
 use Rattle.find.specs.Find.{Tables, graphIn}
-use Rattle.costing.specs.Costing.{costsIn, freeIn, kindsIn, leadsIn, mustsIn, ordersIn, tops}
+use Rattle.costing.specs.Costing.{costsIn, freeIn, kindsIn, leadsIn, mustsIn, tops}
 use Rattle.costing.proofs.Laws.{free-all, free-lie, must-rows, musts-all, musts-forest, same-graph, tabled, tables-in, under-top}
 use Rattle.completions.specs.Boxes.{inside}
 use Rattle.fronted.specs.Filled.{Filled, FilledBy}
@@ -72,7 +72,7 @@ module _ {f firsts seconds heads tails : List ℕ} {limit nodes width k : ℕ} (
   entries-are : treesWith g (rowsOn heads) ≡ layoutsIn f
   entries-are = rw (graph-is, musts-are) (sym (layouts-with (networkOf f) (formed f (l .accepted))))
 
-  tables : Tables firsts seconds limit k (costsIn f) (ordersIn (costsIn f) (length firsts))
+  tables : Tables firsts seconds limit k
   tables = rw (l .first-ends, l .second-ends, l .all-nodes, l .criteria) (tables-in f (l .accepted))
 
   module _ (p : List ℕ) (m : p ∈ treesWith g (rowsOn heads)) where
@@ -88,7 +88,7 @@ module _ {f firsts seconds heads tails : List ℕ} {limit nodes width k : ℕ} (
 
   pub searched : (musts : List ℕ) → musts ≡ take 31 (mustsIn heads)
       → Searched (neighboursOf firsts seconds) firsts seconds (neighboursOf heads tails) heads tails limit 1 nodes width (kindsIn f) k (costsIn f) (leadsIn f)
-      (ordersIn (costsIn f) (length firsts)) musts (freeIn firsts seconds heads limit)
+      musts (freeIn firsts seconds heads limit)
   searched musts e = record {
     ready = record {
       tables = tables;

@@ -34,8 +34,8 @@ use Rattle.walk.specs.Walk.{afterOf, pathOr}
 use Rattle.walk.proofs.Behind.{after-beyond, after-path, afterIn, first-path, firstPath, last-after}
 use Rattle.sought.specs.Sought.{First, Ready, Wanted}
 
-module _ {nb firsts seconds mustNb heads tails : List ℕ} {limit plant nodes width k : ℕ} {prices orders : List ℕ}
-    (ready : Ready nb firsts seconds mustNb heads tails limit plant nodes width k prices orders) (kinds leads limits : List ℕ) where
+module _ {nb firsts seconds mustNb heads tails : List ℕ} {limit plant nodes width k : ℕ}
+    (ready : Ready nb firsts seconds mustNb heads tails limit plant nodes width k) (kinds prices leads limits : List ℕ) where
   abbrev g : Graph
   g = graphIn firsts seconds limit
 
@@ -74,7 +74,7 @@ module _ {nb firsts seconds mustNb heads tails : List ℕ} {limit plant nodes wi
       }
 
   module _ {path : Path} {len : ℕ} (s : Seeking path len) where
-    pub seek-asked : ((c : ℕ) → k ≤ c → c < 4 → 0 < getD limits c 0) → Asked firsts seconds heads limit k prices orders limits path musts
+    pub seek-asked : ((c : ℕ) → k ≤ c → c < 4 → 0 < getD limits c 0) → Asked firsts seconds heads limit k limits path musts
     seek-asked past = record {
       tables = ready .tables;
       open-past = past;

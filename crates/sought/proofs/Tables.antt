@@ -92,8 +92,8 @@ step-is k c x h l = rw (lt-ltb c k h) (omega arith)
 pub up-past : (k : ℕ) (v : List ℕ) (c : ℕ) → k ≤ c → c < 4 → 0 < getD (upFrom k v) c 0
 up-past k v c h l = rw (up-at k v c l, le-ltb c k h) (omega arith)
 
-module _ {nb firsts seconds mustNb heads tails : List ℕ} {limit plant nodes width : ℕ} {kinds : List ℕ} {k : ℕ} {prices leads orders musts free : List ℕ}
-    (s : Searched nb firsts seconds mustNb heads tails limit plant nodes width kinds k prices leads orders musts free) (four : length kinds ≡ 4)
+module _ {nb firsts seconds mustNb heads tails : List ℕ} {limit plant nodes width : ℕ} {kinds : List ℕ} {k : ℕ} {prices leads musts free : List ℕ}
+    (s : Searched nb firsts seconds mustNb heads tails limit plant nodes width kinds k prices leads musts free) (four : length kinds ≡ 4)
     {capacity : ℕ} {costs₀ witnesses₀ : List ℕ} (lent : Holding capacity k width costs₀ witnesses₀) where
   abbrev g : Graph
   g = graphIn firsts seconds limit
@@ -174,7 +174,7 @@ module _ {nb firsts seconds mustNb heads tails : List ℕ} {limit plant nodes wi
         ∙ ap (pieces k (length (take n F))) (sym (append-nil (flat (take n F))))
         ∙ pieces-flat k (take n F) [] (λ v m. vectors-long v (take-out n F m))
 
-    module _ (best : Best) (next : NextOf firsts seconds limit kinds k prices leads orders musts free costs n best) where
+    module _ (best : Best) (next : NextOf firsts seconds limit kinds k prices leads musts free costs n best) where
       abbrev OfHere : List ℕ → Type 0
       OfHere = Of g wf w (rowsOn heads)
 

@@ -47,8 +47,8 @@ unfoldable pub rowOf : List ℕ → List ℕ
 rowOf v = word (getD v 0 0) ∷ word (getD v 1 0) ∷ word (getD v 2 0) ∷ word (getD v 3 0) ∷ []
 
 -- the walk and the tables are of one graph
-pub record Ready (nb firsts seconds mustNb heads tails : List ℕ) (limit plant nodes width k : ℕ) (prices orders : List ℕ) : Type 0 where
-  pub tables : Tables firsts seconds limit k prices orders
+pub record Ready (nb firsts seconds mustNb heads tails : List ℕ) (limit plant nodes width k : ℕ) : Type 0 where
+  pub tables : Tables firsts seconds limit k
   pub fitted : Fitted (graphIn firsts seconds limit) nb limit nodes width
   pub mustered : Mustered (graphIn firsts seconds limit) nb mustNb heads tails limit (rowsOn heads)
   pub planted : plant ≡ 1
@@ -88,16 +88,16 @@ abbrev pub lowest : List ℕ
 lowest = 0 ∷ 0 ∷ 0 ∷ 0 ∷ []
 
 -- what is sought: with the walk and the tables, rows to search over, and that there is a tree and no vector reaches the limits
-pub record Searched (nb firsts seconds mustNb heads tails : List ℕ) (limit plant nodes width : ℕ) (kinds : List ℕ) (k : ℕ) (prices leads orders musts free : List ℕ) : Type 0 where
-  pub ready : Ready nb firsts seconds mustNb heads tails limit plant nodes width k prices orders
+pub record Searched (nb firsts seconds mustNb heads tails : List ℕ) (limit plant nodes width : ℕ) (kinds : List ℕ) (k : ℕ) (prices leads musts free : List ℕ) : Type 0 where
+  pub ready : Ready nb firsts seconds mustNb heads tails limit plant nodes width k
   pub musts-are : musts ≡ rowsOn heads
-  pub ground : Ground firsts seconds limit k prices orders musts free
+  pub ground : Ground firsts seconds limit k musts free
   pub under : (p : List ℕ) → p ∈ soughtTrees firsts seconds heads limit kinds k prices leads → T (inside (take k tops) (costOf (tableOf kinds k prices leads) p))
 
 -- what the search for the next row answers, where `count` rows of k places are known
-abbrev pub NextOf : List ℕ → List ℕ → ℕ → List ℕ → ℕ → List ℕ → List ℕ → List ℕ → List ℕ → List ℕ → List ℕ → ℕ → Best → Type 0
-NextOf firsts seconds limit kinds k prices leads orders musts free costs count r =
-    OnGround firsts seconds limit kinds k prices leads orders musts free tops
+abbrev pub NextOf : List ℕ → List ℕ → ℕ → List ℕ → ℕ → List ℕ → List ℕ → List ℕ → List ℕ → List ℕ → ℕ → Best → Type 0
+NextOf firsts seconds limit kinds k prices leads musts free costs count r =
+    OnGround firsts seconds limit kinds k prices leads musts free tops
     (λ Of. Lowered Of (Open (knownRows k (take (count * k) costs)) (take k tops)) (Region (knownRows k (take (count * k) costs)) lowest (take k tops)) none (leastOf k r))
 
 -- what is read of an accepted file that has a tree: the ends of the rows that are not barred and of the must rows, its nodes and criteria

@@ -59,10 +59,9 @@ fn witness(
     k: u8,
     prices: &[u32],
     leads: &[u8],
-    orders: &[u8],
     limits: [u64; 4],
 ) -> Path
-    requires { ⌜ Ready (now neighbours) (now firsts) (now seconds) (now claims) (now heads) (now tails) limit plant nodes width k (now prices) (now orders) × ((c : ℕ) → k ≤ c → c < 4 → 0 < getD limits c 0) × Wanted (now firsts) (now seconds) (now heads) limit kinds k (now prices) (now leads) limits ⌝ }
+    requires { ⌜ Ready (now neighbours) (now firsts) (now seconds) (now claims) (now heads) (now tails) limit plant nodes width k × ((c : ℕ) → k ≤ c → c < 4 → 0 < getD limits c 0) × Wanted (now firsts) (now seconds) (now heads) limit kinds k (now prices) (now leads) limits ⌝ }
     ensures { λ r. ⌜ First (now (firsts .entry)) (now (seconds .entry)) (now (heads .entry)) limit kinds k (now (prices .entry)) (now (leads .entry)) limits r ⌝ }
 {
     let mut path = grow::first_path(
@@ -88,7 +87,6 @@ fn witness(
             k,
             prices,
             leads,
-            orders,
             limits,
             path,
             len + 1,
@@ -123,14 +121,13 @@ fn next_row(
     k: u8,
     prices: &[u32],
     leads: &[u8],
-    orders: &[u8],
     musts: Chosen,
     free: [u8; 256],
     costs: &[u32],
     count: usize,
 ) -> Best
     requires { ⌜ count * k ≤ length (now costs) ⌝ }
-    ensures { λ r. ⌜ NextOf (now (firsts .entry)) (now (seconds .entry)) limit kinds k (now (prices .entry)) (now (leads .entry)) (now (orders .entry)) (rowsOf musts) free (now (costs .entry)) count r ⌝ }
+    ensures { λ r. ⌜ NextOf (now (firsts .entry)) (now (seconds .entry)) limit kinds k (now (prices .entry)) (now (leads .entry)) (rowsOf musts) free (now (costs .entry)) count r ⌝ }
 {
     let end = count * k as usize;
     let none = Best {
@@ -145,7 +142,6 @@ fn next_row(
         k,
         prices,
         leads,
-        orders,
         musts,
         free,
         &costs[..end],
@@ -196,14 +192,13 @@ fn rows(
     k: u8,
     prices: &[u32],
     leads: &[u8],
-    orders: &[u8],
     musts: Chosen,
     free: [u8; 256],
     capacity: usize,
     costs: &mut [u32],
     witnesses: &mut [u16],
 ) -> FrontAnswer
-    requires { ⌜ Searched (now neighbours) (now firsts) (now seconds) (now claims) (now heads) (now tails) limit plant nodes width kinds k (now prices) (now leads) (now orders) (rowsOf musts) free × Holding capacity k width (now costs) (now witnesses) ⌝ }
+    requires { ⌜ Searched (now neighbours) (now firsts) (now seconds) (now claims) (now heads) (now tails) limit plant nodes width kinds k (now prices) (now leads) (rowsOf musts) free × Holding capacity k width (now costs) (now witnesses) ⌝ }
     ensures { λ r. ⌜ FilledBy (soughtFront (now (firsts .entry)) (now (seconds .entry)) (now (heads .entry)) limit kinds k (now (prices .entry)) (now (leads .entry))) (soughtWitnesses (now (firsts .entry)) (now (seconds .entry)) (now (heads .entry)) limit kinds k (now (prices .entry)) (now (leads .entry))) capacity (now (costs .entry)) (now (witnesses .entry)) (frontedOf r) (now (costs .exit)) (now (witnesses .exit)) ⌝ }
 {
     let mut count: usize = 0;
@@ -216,7 +211,6 @@ fn rows(
             k,
             prices,
             leads,
-            orders,
             musts,
             free,
             costs,
@@ -251,7 +245,6 @@ fn rows(
             k,
             prices,
             leads,
-            orders,
             limits,
         );
         write(costs, witnesses, count, k, width, v, path);
@@ -281,7 +274,6 @@ fn fill(
     let claims = spread::neighbours(heads, tails);
     let prices = costing::costs_of(file);
     let leads = costing::leads_of(file);
-    let orders = costing::orders_of(&prices, firsts.len());
     rows(
         &neighbours,
         firsts,
@@ -297,7 +289,6 @@ fn fill(
         k,
         &prices,
         &leads,
-        &orders,
         costing::musts_of(heads),
         costing::free_of(firsts, seconds, heads, limit),
         capacity,

@@ -1,6 +1,6 @@
 -- The tables and the network that they make, `tableOf`, agree: on the cost and the street of a row (`cost-table`, `street-table`), on the days of a street
--- (`days-table`), on the cost of rows by each kind (`closing-table`, `kind-table`), on cost vectors and boxes (`vector-table`, `inside-table`), and on what a row
--- more adds (`excess-table`). The tables have 256 rows, and the network reads at most 256 criteria.
+-- (`day-table`), on the cost of rows by each kind (`closing-table`, `kind-table`), and on cost vectors and boxes (`vector-table`, `inside-table`).
+-- The tables have 256 rows, and the network reads at most 256 criteria.
 use mathlib.Core.Path.{_∙_, _≡_, ap, ap₂, refl, sym}
 use mathlib.Core.Bool.{Bool, false, true}
 use mathlib.Core.Option.{some}
@@ -83,17 +83,10 @@ module _ (kinds : List ℕ) (k : ℕ) (costs leads : List ℕ) where
         (λ r m. ap (λ (s : ℕ). eqb s (suc l)) (street-table r (h r m)) ∙ eqb·suc-suc (leadIn leads r) l))
         ∙ ap largest (costs-table (filterB (λ r. eqb (leadIn leads r) l) rows) (λ r m. h r (filter-out (λ r. eqb (leadIn leads r) l) rows m .0)))
 
-    pub days-table : (rows : List ℕ) → Rows rows → (l : ℕ) → l < 256 → streetCost w c rows (suc l) ≡ getD (daysIn costs leads c rows) l 0
-    days-table rows h l b = day-table rows h l ∙ sym (days-at costs leads c rows l b)
-
     -- what a row more adds
     more-table : (rows : List ℕ) → Rows rows → (r : ℕ) → r < 256 → excessAt w c rows r ≡ costIn costs c r - dayIn costs leads c rows (leadIn leads r)
     more-table rows h r b = rw (street-table r b, eqb·suc-zero (leadIn leads r))
         (ap₂ (λ (x y : ℕ). x - y) (cost-table c r b low) (day-table rows h (leadIn leads r)))
-
-    pub excess-table : (rows : List ℕ) → Rows rows → (r : ℕ) → r < 256 → leadIn leads r < 256
-        → excessAt w c rows r ≡ costIn costs c r - getD (daysIn costs leads c rows) (leadIn leads r) 0
-    excess-table rows h r b d = more-table rows h r b ∙ ap (λ (x : ℕ). costIn costs c r - x) (sym (days-at costs leads c rows (leadIn leads r) d))
 
     pub closing-table : (rows : List ℕ) → Rows rows → closingCost w c rows ≡ closingIn costs leads c rows
     unfolding closingIn streetsOf filterB sum

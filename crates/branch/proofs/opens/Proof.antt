@@ -1,3 +1,4 @@
+-- `branch::opens` meets its contract: the question is put to `find`, with the rows of the branch in and the rows that may still come usable.
 use mathlib.Core.Path.{_∙_, _≡_}
 use lib.ListN.{take}
 use borrow.Author.Needs.{needs}
@@ -26,7 +27,7 @@ returns c musts asked =
     let free = c .before in
     let cut = free .before in
     let rows = cut .before in
-    let a = rows .before .before .before .before .before .before .before .args in
+    let a = rows .before .before .before .before .before .before .args in
     let inc = rows .standing .ensures (small asked) in
     let us : free .coming .result ≡ flagsOf (a .firsts .now) (a .seconds .now) (a .heads .now) (a .limit) 1 (take (a .len) (keysOf (a .path))) =
     rw (cut .shortened .ensures .0 ∙ asked .plant, cut .shortened .ensures .1) at (free .coming .ensures) in

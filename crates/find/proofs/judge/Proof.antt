@@ -1,71 +1,78 @@
--- `find::judge` meets its contract: at each turn what is said so far is right, and the criteria left fall.
-use mathlib.Core.Path.{refl}
-use Prim.Native.Nat.{_-_, _≤_}
-use native.Mathlib.Omega.{arith}
-use Rattle.chosen.specs.Chosen.{rowsOf}
-use Rattle.find.specs.Nodes.{Verdict}
+-- `find::judge` meets its contract: the choice closes the node, or says what `settled` says of it.
+use mathlib.Core.Path.{_∙_, refl, subst, sym}
+use lib.Dec.{T, ltb→lt}
 use borrow.Author.Needs.{needs}
+use Rattle.lists.proofs.Tests.{T-true}
+use Rattle.find.proofs.Judging.{choice-on, judges-closed, settles, short, too-heavy}
 use Rattle.find.proofs.judge.Statement.{statement}
 use Rattle.find.proofs.judge.Tie as tie
 
-abbrev Inv-loop : tie.InvT-loop
-Inv-loop firsts seconds k costs leads orders inc flags need labels kinds limits judged₀ c₀ judged c =
-    (c ≤ 4) × Verdict firsts seconds kinds k costs leads orders limits (rowsOf inc) flags need labels judged
+weights-requires : tie.Need-weights-requires
+weights-requires c κs = search needs
 
-abbrev μ-loop : tie.MeasureT-loop
-μ-loop firsts seconds k costs leads orders inc flags need labels kinds limits judged₀ c₀ judged c = 4 - c
+slice-aggregate-lightest : tie.Need-slice-aggregate-lightest
+slice-aggregate-lightest c = search needs
 
-order-of-requires : tie.Need-order-of-requires Inv-loop μ-loop
-order-of-requires c κs = search needs
+lightest-requires : tie.Need-lightest-requires
+lightest-requires c κs = search needs
 
-array-read-judge-by : tie.Need-array-read-judge-by Inv-loop μ-loop
-array-read-judge-by c = search needs
+count-requires : tie.Need-count-requires
+count-requires c κs = search needs
 
-array-read-judge-by-2 : tie.Need-array-read-judge-by-2 Inv-loop μ-loop
-array-read-judge-by-2 c = search needs
+returns : tie.Need-returns
+returns c =
+    let s = c .before .before .before .before .before .before .before .before .before .before in
+    let a = s .args in (
+      λ e. absurd (subst T e tt),
+      λ nodes given. judges-closed _ _ _ _ _ _ refl
+          (short given (a .kinds) (a .costs .now) (a .leads .now) (s .good .1 .1 .0 .1 .0 .1) (s .good .1 .1 .1 .1 .1 .1 .0 .1 .0 .1) (c .before .before .before .before .weights .result) (c .before .before .lightest .ensures) (λ e. c .if1 .taken (c .before .count .ensures .0 ∙ e))),
+    )
 
-judge-by-requires : tie.Need-judge-by-requires Inv-loop μ-loop
-judge-by-requires c κs = search needs
+room-requires : tie.Need-room-requires
+room-requires c κs = search needs
 
-loop-holds : tie.Need-loop-holds Inv-loop μ-loop
-loop-holds c = (omega arith, (c .judge-by .ensures .0, λ nodes given. c .judge-by .ensures .1 nodes _ given (given .tables .some-criteria) refl refl (c .before .order-of .ensures)))
+slice-aggregate-exceed : tie.Need-slice-aggregate-exceed
+slice-aggregate-exceed c = search needs
 
-returns : tie.Need-returns Inv-loop μ-loop
-returns c = search needs
+exceed-requires : tie.Need-exceed-requires
+exceed-requires c κs = search needs
 
-returns-2 : tie.Need-returns-2 Inv-loop μ-loop
-returns-2 c = search needs
+returns-2 : tie.Need-returns-2
+returns-2 c =
+    let s = c .before .before .before .before .before .before .before .before .before .before .before .before .before .before in
+    let a = s .args in (
+      λ e. absurd (subst T e tt),
+      λ nodes given. judges-closed _ _ _ _ _ _ refl
+          (too-heavy given (a .kinds) (a .costs .now) (a .leads .now) (s .good .1 .1 .0 .1 .0 .1) (s .good .1 .1 .1 .1 .1 .1 .0 .1 .0 .1) (c .before .before .before .before .before .before .before .before .weights .result) (c .before .before .before .before .before .before .lightest .ensures) (a .factors) (c .before .before .before .before .before .before .before .before .weights .ensures) (c .before .before .before .room .ensures)
+          (ltb→lt _ _ (T-true _ .1 (sym (c .before .exceed .ensures) ∙ c .if2 .taken)))),
+    )
 
-judge-next-requires : tie.Need-judge-next-requires Inv-loop μ-loop
-judge-next-requires c κs = search needs
+settled-requires : tie.Need-settled-requires
+settled-requires c κs = search needs
 
-add-c : tie.Need-add-c Inv-loop μ-loop
-add-c c = search needs
-
-loop-less : tie.Need-loop-less Inv-loop μ-loop
-loop-less c = search needs
-
-loop-again : tie.Need-loop-again Inv-loop μ-loop
-loop-again c = (omega arith, c .judge-next .ensures (c .before .before .before .before .loop .inv .1))
-
-returns-3 : tie.Need-returns-3 Inv-loop μ-loop
-returns-3 c = search needs
+returns-3 : tie.Need-returns-3
+returns-3 c =
+    let s = c .before .before .before .before .before .before .before .before .before .before .before .before .before .before .before in
+    let a = s .args in
+    let weights = c .before .before .before .before .before .before .before .before .before .weights .result in
+    let choice = c .before .before .before .before .before .before .before .lightest .ensures in
+    let full = sym (c .before .before .before .before .before .before .count .ensures .0) ∙ c .before .before .before .before .before .if1 .left in (
+      λ e f. rw (c .settled .ensures .choice f) (full, choice-on (a .firsts .now) (a .seconds .now) weights (a .flags .now) (a .need) (a .labels) choice),
+      λ nodes given. settles given (a .kinds) (a .costs .now) (a .leads .now) (s .good .1 .1 .0 .1 .0 .1) (s .good .1 .1 .1 .1 .1 .1 .0 .1 .0 .1) weights choice full (c .settled .ensures),
+    )
 
 pub judge-spec : {M : Type 1} → statement M
 judge-spec =
     tie.close
     (tie.spec
-    Inv-loop
-    μ-loop
-    order-of-requires
-    array-read-judge-by
-    array-read-judge-by-2
-    judge-by-requires
-    loop-holds
+    weights-requires
+    slice-aggregate-lightest
+    lightest-requires
+    count-requires
     returns
+    room-requires
+    slice-aggregate-exceed
+    exceed-requires
     returns-2
-    judge-next-requires
-    add-c
-    loop-less
-    loop-again
+    settled-requires
     returns-3)

@@ -21,14 +21,14 @@ use Rattle.least.proofs.with_limit.Reads as with-limit-reads
 use Rattle.least.proofs.+least.{statement}
 use Rattle.least.proofs.+least.Tie.{close}
 
-abbrev μ-least : Measures 6 least-kinds.ps ℕ
-μ-least κs a = getD (a .1 .1 .1 .1 .1 .1 .1 .1 .1 .1 .1 .0) 3 0
+abbrev μ-least : Measures 5 least-kinds.ps ℕ
+μ-least κs a = getD (a .1 .1 .1 .1 .1 .1 .1 .1 .1 .1 .0) 3 0
 
-abbrev least-at : ℕ → In 6 least-kinds.ps
-least-at t = and 6 least-kinds.ps (is 6 least-kinds.ps μ-least t) least.Pre
+abbrev least-at : ℕ → In 5 least-kinds.ps
+least-at t = and 5 least-kinds.ps (is 5 least-kinds.ps μ-least t) least.Pre
 
-abbrev least-below : ℕ → In 6 least-kinds.ps
-least-below t = and 6 least-kinds.ps (falls 6 least-kinds.ps _<_ μ-least t) least.Pre
+abbrev least-below : ℕ → In 5 least-kinds.ps
+least-below t = and 5 least-kinds.ps (falls 5 least-kinds.ps _<_ μ-least t) least.Pre
 
 -- what the calls ask and tell; a call of `least` itself asks that the measure falls
 abbrev calls : ℕ → least-lts.Claims
@@ -46,16 +46,16 @@ calls t = (
 )
 
 abbrev least-Inv-loop : least-lts.InvT-loop
-least-Inv-loop firsts seconds limit kinds k costs leads orders musts free known best₀ lows₀ lower₀ best lows lower =
-    Searching firsts seconds limit kinds k costs leads orders (rowsOf musts) free known lower₀ lows₀ best₀ lower lows best
+least-Inv-loop firsts seconds limit kinds k costs leads musts free known best₀ lows₀ lower₀ best lows lower =
+    Searching firsts seconds limit kinds k costs leads (rowsOf musts) free known lower₀ lows₀ best₀ lower lows best
 
 abbrev least-μ-loop : least-lts.MeasureT-loop
-least-μ-loop firsts seconds limit kinds k costs leads orders musts free known best₀ lows₀ lower₀ best lows lower = getD lower 2 0
+least-μ-loop firsts seconds limit kinds k costs leads musts free known best₀ lows₀ lower₀ best lows lower = getD lower 2 0
 
 -- the part below the row in component 1 has been searched, in this turn or before
 first : (t : ℕ) (c : least-lts.Joined3 (calls t) (least-at t) least.Post least-Inv-loop least-μ-loop)
-    → let a = c .before .before .before .before .before .before .before .before .before .before .before .before .args in
-    First (a .firsts .now) (a .seconds .now) (a .limit) (a .kinds) (a .k) (a .costs .now) (a .leads .now) (a .orders .now) (rowsOf (a .musts)) (a .free)
+    → let a = c .before .before .before .before .before .before .before .before .before .before .before .args in
+    First (a .firsts .now) (a .seconds .now) (a .limit) (a .kinds) (a .k) (a .costs .now) (a .leads .now) (rowsOf (a .musts)) (a .free)
     (a .known .now)
     (a .limits) (a .from) (a .start) (c .before .before .before .before .before .loop .lower) (c .if3 .lows) (c .if3 .best)
     (c .before .before .before .before .place-inside .result)
@@ -64,15 +64,15 @@ first t c =
     let l = a .before .loop in
     let one = c .before .known-at .ensures in
     ⊎-elim
-    (λ w. first-now _ _ _ _ _ _ _ _ _ _ _ _ _ _ (l .lower) (l .lows) (l .best) (l .inv) _ (a .place-inside .ensures) (c .before .before .before .if1 .left) (omega arith) _ one
+    (λ w. first-now _ _ _ _ _ _ _ _ _ _ _ _ _ (l .lower) (l .lows) (l .best) (l .inv) _ (a .place-inside .ensures) (c .before .before .before .if1 .left) (omega arith) _ one
     _ (w .1 .ensures) _ (w .2 .ensures) _ (w .4) _ (w .3))
-    (λ w. first-before _ _ _ _ _ _ _ _ _ _ _ _ _ _ (l .lower) (l .lows) (l .best) (l .inv) _ (a .place-inside .ensures) (c .before .before .before .if1 .left) _ one (w .0 .left) _ (w .2) _ (w .1))
+    (λ w. first-before _ _ _ _ _ _ _ _ _ _ _ _ _ (l .lower) (l .lows) (l .best) (l .inv) _ (a .place-inside .ensures) (c .before .before .before .if1 .left) _ one (w .0 .left) _ (w .2) _ (w .1))
     (c .if3 .came)
 
 least-loop-holds : (t : ℕ) → least-lts.Need-loop-holds (calls t) (least-at t) least.Post least-Inv-loop least-μ-loop
 least-loop-holds t c =
-    let s = c .before .before .before .before .before .before in
-    searching-start _ _ _ _ _ _ _ _ _ _ _ _ _ _ (s .good .1 .1 .1 .1 .1 .1 .1 .1 .1 .1 .1 .0 .1 .0 .1) (s .good .1 .1 .1 .1 .1 .1 .1 .1 .1 .1 .1 .1 .0 .1 .0 .1)
+    let s = c .before .before .before .before .before in
+    searching-start _ _ _ _ _ _ _ _ _ _ _ _ _ (s .good .1 .1 .1 .1 .1 .1 .1 .1 .1 .1 .0 .1 .0 .1) (s .good .1 .1 .1 .1 .1 .1 .1 .1 .1 .1 .1 .0 .1 .0 .1)
 
 least-place-inside-requires : (t : ℕ) → least-lts.Need-place-inside-requires (calls t) (least-at t) least.Post least-Inv-loop least-μ-loop
 least-place-inside-requires t c κs = search needs
@@ -84,13 +84,13 @@ least-returns : (t : ℕ) → least-lts.Need-returns (calls t) (least-at t) leas
 least-returns t c =
     let a = c .before .before in
     let l = a .before .loop in
-    search-clean _ _ _ _ _ _ _ _ _ _ _ _ _ _ (l .lower) (l .lows) (l .best) (l .inv) _ (a .place-inside .ensures) (c .before .if1 .taken) (c .lesser .result) (c .lesser .ensures)
+    search-clean _ _ _ _ _ _ _ _ _ _ _ _ _ (l .lower) (l .lows) (l .best) (l .inv) _ (a .place-inside .ensures) (c .before .if1 .taken) (c .lesser .result) (c .lesser .ensures)
 
 least-returns-2 : (t : ℕ) → least-lts.Need-returns-2 (calls t) (least-at t) least.Post least-Inv-loop least-μ-loop
 least-returns-2 t c =
     let a = c .before .before in
     let l = a .before .loop in
-    search-one _ _ _ _ _ _ _ _ _ _ _ _ _ _ (l .lower) (l .lows) (l .best) (l .inv) _ (a .place-inside .ensures) (c .before .if1 .left) (c .if2 .taken)
+    search-one _ _ _ _ _ _ _ _ _ _ _ _ _ (l .lower) (l .lows) (l .best) (l .inv) _ (a .place-inside .ensures) (c .before .if1 .left) (c .if2 .taken)
 
 least-known-at-requires : (t : ℕ) → least-lts.Need-known-at-requires (calls t) (least-at t) least.Post least-Inv-loop least-μ-loop
 least-known-at-requires t c κs = search needs
@@ -111,7 +111,7 @@ least-returns-3 : (t : ℕ) → least-lts.Need-returns-3 (calls t) (least-at t) 
 least-returns-3 t c =
     let f = c .before in
     let a = f .before .before .before .before in
-    search-two _ _ _ _ _ _ _ _ _ _ _ _ _ _ (a .before .loop .lower) (f .if3 .lows) (f .if3 .best) _ (first t f) (a .place-inside .ensures) (f .before .before .before .if1 .left) (c .if4 .taken)
+    search-two _ _ _ _ _ _ _ _ _ _ _ _ _ (a .before .loop .lower) (f .if3 .lows) (f .if3 .best) _ (first t f) (a .place-inside .ensures) (f .before .before .before .if1 .left) (c .if4 .taken)
 
 least-known-at-requires-2 : (t : ℕ) → least-lts.Need-known-at-requires-2 (calls t) (least-at t) least.Post least-Inv-loop least-μ-loop
 least-known-at-requires-2 t c κs = search needs
@@ -137,7 +137,7 @@ least-loop-again : (t : ℕ) → least-lts.Need-loop-again (calls t) (least-at t
 least-loop-again t c =
     let f = c .before .before .before .before .before in
     let a = f .before .before .before .before in
-    search-rest _ _ _ _ _ _ _ _ _ _ _ _ _ _ (a .before .loop .lower) (f .if3 .lows) (f .if3 .best) _ (first t f) (a .place-inside .ensures) (f .before .before .before .if1 .left) (omega arith)
+    search-rest _ _ _ _ _ _ _ _ _ _ _ _ _ (a .before .loop .lower) (f .if3 .lows) (f .if3 .best) _ (first t f) (a .place-inside .ensures) (f .before .before .before .if1 .left) (omega arith)
     (rw (sym (c .before .before .before .known-at2 .ensures)) (c .if5 .taken)) _ (c .before .known-at3 .ensures)
 
 least-least-requires : (t : ℕ) → least-lts.Need-least-requires (calls t) (least-at t) least.Post least-Inv-loop least-μ-loop
@@ -147,7 +147,7 @@ least-least-requires t c κs =
       omega (
         arith,
         l .inv .third,
-        a .before .before .before .before .before .before .before .before .pre .0,
+        a .before .before .before .before .before .before .before .pre .0,
         falls-three _ _ _ _ _ (a .place-inside .ensures) (c .before .before .before .before .before .before .before .before .if1 .left) (l .inv .size) _ (c .before .before .before .known-at2 .ensures) _ (c .before .before .with-limit2 .ensures),
       ),
       search needs,
@@ -165,7 +165,7 @@ least-loop-again-2 : (t : ℕ) → least-lts.Need-loop-again-2 (calls t) (least-
 least-loop-again-2 t c =
     let f = c .before .before .before .before .before .before in
     let a = f .before .before .before .before in
-    search-both _ _ _ _ _ _ _ _ _ _ _ _ _ _ (a .before .loop .lower) (f .if3 .lows) (f .if3 .best) _ (first t f) (a .place-inside .ensures) (f .before .before .before .if1 .left) (omega arith)
+    search-both _ _ _ _ _ _ _ _ _ _ _ _ _ (a .before .loop .lower) (f .if3 .lows) (f .if3 .best) _ (first t f) (a .place-inside .ensures) (f .before .before .before .if1 .left) (omega arith)
     _ (c .before .before .before .before .known-at2 .ensures) (c .before .if5 .left) _ (c .before .before .before .with-limit2 .ensures) (c .least .result) (c .least .ensures) _ (c .before .before .known-at3 .ensures)
 
 pub +least-spec : {M : Type 1} → statement M

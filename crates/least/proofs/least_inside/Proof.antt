@@ -12,23 +12,23 @@ use Rattle.least.proofs.least_inside.Statement.{statement}
 use Rattle.least.proofs.least_inside.Tie as tie
 
 abbrev Inv-loop : tie.InvT-loop
-Inv-loop firsts seconds limit kinds k costs leads orders musts free n v₀ lower₀ c₀ v lower c =
-    (c ≤ n) × OnGround firsts seconds limit kinds k costs leads orders (rowsOf musts) free lower₀
+Inv-loop firsts seconds limit kinds k costs leads musts free n v₀ lower₀ c₀ v lower c =
+    (c ≤ n) × OnGround firsts seconds limit kinds k costs leads (rowsOf musts) free lower₀
     (λ Of. OpenPast k lower × Settled Of (take k lower₀) c (take k lower) (take k v))
 
 abbrev μ-loop : tie.MeasureT-loop
-μ-loop firsts seconds limit kinds k costs leads orders musts free n v₀ lower₀ c₀ v lower c = n - c
+μ-loop firsts seconds limit kinds k costs leads musts free n v₀ lower₀ c₀ v lower c = n - c
 
 -- the array has the length of its type
 four : (c : tie.Start Inv-loop μ-loop) → length (c .args .limits) ≡ 4
-four c = c .good .1 .1 .1 .1 .1 .1 .1 .1 .1 .1 .0 .1 .0 .1
+four c = c .good .1 .1 .1 .1 .1 .1 .1 .1 .1 .0 .1 .0 .1
 
 vector-in-requires : tie.Need-vector-in-requires Inv-loop μ-loop
 vector-in-requires c κs = search needs
 
 returns : tie.Need-returns Inv-loop μ-loop
 returns c =
-    on-none _ _ _ _ _ _ _ _ _ _ _ (four (c .before .before .before .before .before .before .before)) _ (c .before .vector-in .ensures) (c .if1 .left)
+    on-none _ _ _ _ _ _ _ _ _ _ (four (c .before .before .before .before .before .before)) _ (c .before .vector-in .ensures) (c .if1 .left)
 
 criteria-requires : tie.Need-criteria-requires Inv-loop μ-loop
 criteria-requires c κs = search needs
@@ -36,7 +36,7 @@ criteria-requires c κs = search needs
 loop-holds : tie.Need-loop-holds Inv-loop μ-loop
 loop-holds c =
     let a = c .before .before in
-    (omega arith, on-start _ _ _ _ _ _ _ _ _ _ _ (four (a .before .before .before .before .before .before .before)) _ (a .before .vector-in .ensures) (a .if1 .taken))
+    (omega arith, on-start _ _ _ _ _ _ _ _ _ _ (four (a .before .before .before .before .before .before)) _ (a .before .vector-in .ensures) (a .if1 .taken))
 
 lowered-requires : tie.Need-lowered-requires Inv-loop μ-loop
 lowered-requires c κs = search needs
@@ -73,7 +73,7 @@ loop-again c =
     let l = c .before .before .before .loop in
     let n = c .before .before .before .before .before in (
       omega arith,
-      on-settled _ _ _ _ _ _ _ _ _ _ _ (four (n .before .before .before .before .before .before .before .before)) _ (n .criteria .ensures) (l .lower) (l .v) (l .c) (l .inv .1) _ _
+      on-settled _ _ _ _ _ _ _ _ _ _ (four (n .before .before .before .before .before .before .before)) _ (n .criteria .ensures) (l .lower) (l .v) (l .c) (l .inv .1) _ _
           (c .before .before .loop-test .taken) (c .before .lowered .ensures) (c .above .ensures),
     )
 
@@ -81,7 +81,7 @@ returns-2 : tie.Need-returns-2 Inv-loop μ-loop
 returns-2 c =
     let l = c .before .loop in
     let n = c .before .before .before in
-    on-least _ _ _ _ _ _ _ _ _ _ _ (four (n .before .before .before .before .before .before .before .before)) _ (n .criteria .ensures) (l .lower) (l .v) (l .c) (l .inv .1) (l .inv .0)
+    on-least _ _ _ _ _ _ _ _ _ _ (four (n .before .before .before .before .before .before .before)) _ (n .criteria .ensures) (l .lower) (l .v) (l .c) (l .inv .1) (l .inv .0)
     (c .loop-test .left)
 
 pub least-inside-spec : {M : Type 1} → statement M

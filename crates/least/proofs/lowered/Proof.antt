@@ -11,15 +11,15 @@ use Rattle.least.proofs.lowered.Statement.{statement}
 use Rattle.least.proofs.lowered.Tie as tie
 
 abbrev Inv-loop : tie.InvT-loop
-Inv-loop firsts seconds limit kinds k costs leads orders musts free limits c v₀ v =
-    OnGround firsts seconds limit kinds k costs leads orders (rowsOf musts) free limits (λ Of. (c < k → InBox Of k limits v₀ → InBox Of k limits v))
+Inv-loop firsts seconds limit kinds k costs leads musts free limits c v₀ v =
+    OnGround firsts seconds limit kinds k costs leads (rowsOf musts) free limits (λ Of. (c < k → InBox Of k limits v₀ → InBox Of k limits v))
 
 abbrev μ-loop : tie.MeasureT-loop
-μ-loop firsts seconds limit kinds k costs leads orders musts free limits c v₀ v = getD v c 0
+μ-loop firsts seconds limit kinds k costs leads musts free limits c v₀ v = getD v c 0
 
 -- the array has the length of its type
 four : (c : tie.Start Inv-loop μ-loop) → length (c .args .limits) ≡ 4
-four c = c .good .1 .1 .1 .1 .1 .1 .1 .1 .1 .1 .0 .1 .0 .1
+four c = c .good .1 .1 .1 .1 .1 .1 .1 .1 .1 .0 .1 .0 .1
 
 returns : tie.Need-returns Inv-loop μ-loop
 returns c = λ ground past low of within. absurd (omega (arith, ground .tables .few-criteria))
@@ -43,7 +43,7 @@ returns-2 : tie.Need-returns-2 Inv-loop μ-loop
 returns-2 c =
     let l = c .before .before .before in
     λ ground past low of within.
-    on-end _ _ _ _ _ _ _ _ _ _ _ (four (l .before .before .before .before .before .before .before)) _ _ _ _ (c .before .before .with-limit .ensures) (c .before .vector-in .ensures)
+    on-end _ _ _ _ _ _ _ _ _ _ (four (l .before .before .before .before .before .before)) _ _ _ _ (c .before .before .with-limit .ensures) (c .before .vector-in .ensures)
     (c .if2 .left) ground past low (l .loop .inv ground past low (of, within))
 
 mul-if3 : tie.Need-mul-if3 Inv-loop μ-loop
@@ -58,7 +58,7 @@ returns-3 c =
     let l = a .before .before .before in
     λ ground past low of within.
     let below =
-    on-next _ _ _ _ _ _ _ _ _ _ _ (four (l .before .before .before .before .before .before .before)) _ _ _ _ (a .before .before .with-limit .ensures) (a .before .vector-in .ensures)
+    on-next _ _ _ _ _ _ _ _ _ _ (four (l .before .before .before .before .before .before)) _ _ _ _ (a .before .before .with-limit .ensures) (a .before .vector-in .ensures)
     (a .if2 .taken) ground past low (l .loop .inv ground past low (of, within)) .1 in
     absurd (omega (arith, below))
 
@@ -70,7 +70,7 @@ loop-again c =
     let a = c .before .before in
     let l = a .before .before .before in
     λ ground past low i.
-    on-next _ _ _ _ _ _ _ _ _ _ _ (four (l .before .before .before .before .before .before .before)) _ _ _ _ (a .before .before .with-limit .ensures) (a .before .vector-in .ensures)
+    on-next _ _ _ _ _ _ _ _ _ _ (four (l .before .before .before .before .before .before)) _ _ _ _ (a .before .before .with-limit .ensures) (a .before .vector-in .ensures)
     (a .if2 .taken) ground past low (l .loop .inv ground past low i) .0
 
 pub lowered-spec : {M : Type 1} → statement M

@@ -13,9 +13,9 @@ vector-requires c κs = search needs
 
 returns : tie.Need-returns
 returns c =
-    let s = c .before .before .before .before .before .before .before .before in
+    let s = c .before .before .before .before .before .before .before in
     vector-asked (s .args .firsts .now) (s .args .seconds .now) (s .args .limit) (s .args .kinds) (s .args .k) (s .args .costs .now) (s .args .leads .now)
-    (s .args .orders .now) (rowsOf (s .args .musts)) (s .args .free) (s .args .limits) (s .good .1 .1 .1 .0 .1 .0 .1) (c .before .before .find .result)
+    (rowsOf (s .args .musts)) (s .args .free) (s .args .limits) (s .good .1 .1 .1 .0 .1 .0 .1) (c .before .before .find .result)
     (c .vector .result)
     (c .vector .ensures) (c .before .before .find .ensures)
 

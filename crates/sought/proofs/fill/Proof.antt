@@ -16,12 +16,6 @@ costs-of-requires c κs = search needs
 leads-of-requires : tie.Need-leads-of-requires
 leads-of-requires c κs = search needs
 
-slice-aggregate-orders-of : tie.Need-slice-aggregate-orders-of
-slice-aggregate-orders-of c = search needs
-
-orders-of-requires : tie.Need-orders-of-requires
-orders-of-requires c κs = search needs
-
 slice-aggregate-rows : tie.Need-slice-aggregate-rows
 slice-aggregate-rows c = search needs
 
@@ -37,9 +31,6 @@ slice-aggregate-rows-3 c = search needs
 slice-aggregate-rows-4 : tie.Need-slice-aggregate-rows-4
 slice-aggregate-rows-4 c = search needs
 
-slice-aggregate-rows-5 : tie.Need-slice-aggregate-rows-5
-slice-aggregate-rows-5 c = search needs
-
 musts-of-requires : tie.Need-musts-of-requires
 musts-of-requires c κs = search needs
 
@@ -47,7 +38,7 @@ free-of-requires : tie.Need-free-of-requires
 free-of-requires c κs = search needs
 
 rows-requires : tie.Need-rows-requires
-rows-requires c κs = (rw (c .before .before .before .before .before .before .before .before .before .before .before .before .before .before .before .neighbours .ensures, c .before .before .before .before .before .before .before .before .before .before .before .before .before .before .neighbours2 .ensures, c .before .before .before .before .before .before .before .before .before .before .orders-of .ensures, c .before .before .before .before .before .before .before .before .before .before .before .before .before .costs-of .ensures, c .before .before .before .before .before .before .before .before .before .before .before .before .leads-of .ensures, c .before .before .before .before .before .before .before .kinds-of .ensures, c .before .before .free-of .ensures) (searched (c .before .before .before .before .before .before .before .before .before .before .before .before .before .before .before .before .before .before .before .before .before .before .before .pre .0) _ (c .before .before .before .musts-of .ensures)), c .before .before .before .before .before .before .before .before .before .before .before .before .before .before .before .before .before .before .before .before .before .before .before .pre .1)
+rows-requires c κs = (rw (c .before .before .before .before .before .before .before .before .before .before .before .before .neighbours .ensures, c .before .before .before .before .before .before .before .before .before .before .before .neighbours2 .ensures, c .before .before .before .before .before .before .before .before .before .before .costs-of .ensures, c .before .before .before .before .before .before .before .before .before .leads-of .ensures, c .before .before .before .before .before .before .kinds-of .ensures, c .before .before .free-of .ensures) (searched (c .before .before .before .before .before .before .before .before .before .before .before .before .before .before .before .before .before .before .before .before .pre .0) _ (c .before .before .before .musts-of .ensures)), c .before .before .before .before .before .before .before .before .before .before .before .before .before .before .before .before .before .before .before .before .pre .1)
 
 same-length : tie.Need-same-length
 same-length c = search needs
@@ -56,7 +47,7 @@ same-length-2 : tie.Need-same-length-2
 same-length-2 c = search needs
 
 returns : tie.Need-returns
-returns c = filled-for (c .before .before .before .before .before .before .before .before .before .before .before .before .before .before .before .before .before .before .before .before .before .before .before .before .before .before .before .before .pre .0) (rw (c .before .before .before .before .before .before .before .before .before .before .before .before .before .before .before .before .before .before .costs-of .ensures, c .before .before .before .before .before .before .before .before .before .before .before .before .before .before .before .before .before .leads-of .ensures, c .before .before .before .before .before .before .before .before .before .before .before .before .kinds-of .ensures) at (c .before .before .before .before .rows .ensures))
+returns c = filled-for (c .before .before .before .before .before .before .before .before .before .before .before .before .before .before .before .before .before .before .before .before .before .before .before .before .before .pre .0) (rw (c .before .before .before .before .before .before .before .before .before .before .before .before .before .before .before .costs-of .ensures, c .before .before .before .before .before .before .before .before .before .before .before .before .before .before .leads-of .ensures, c .before .before .before .before .before .before .before .before .before .before .before .kinds-of .ensures) at (c .before .before .before .before .rows .ensures))
 
 pub fill-spec : {M : Type 1} → statement M
 fill-spec =
@@ -66,14 +57,11 @@ fill-spec =
     neighbours-requires-2
     costs-of-requires
     leads-of-requires
-    slice-aggregate-orders-of
-    orders-of-requires
     slice-aggregate-rows
     slice-aggregate-rows-2
     kinds-of-requires
     slice-aggregate-rows-3
     slice-aggregate-rows-4
-    slice-aggregate-rows-5
     musts-of-requires
     free-of-requires
     rows-requires

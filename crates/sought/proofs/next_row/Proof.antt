@@ -9,7 +9,7 @@ mul-end : tie.Need-mul-end
 mul-end c = search needs
 
 slice-aggregate-least : tie.Need-slice-aggregate-least
-slice-aggregate-least c = sym (length-take-le _ _ (c .before .before .before .before .before .before .before .pre))
+slice-aggregate-least c = sym (length-take-le _ _ (c .before .before .before .before .before .before .pre))
 
 least-requires : tie.Need-least-requires
 least-requires c κs = search needs

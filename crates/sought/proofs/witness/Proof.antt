@@ -14,18 +14,18 @@ use Rattle.sought.proofs.witness.Statement.{statement}
 use Rattle.sought.proofs.witness.Tie as tie
 
 abbrev Inv-loop : tie.InvT-loop
-Inv-loop neighbours firsts seconds claims heads tails limit plant nodes width kinds k prices leads orders limits path₀ len₀ path len =
-    (ready : Ready neighbours firsts seconds claims heads tails limit plant nodes width k prices orders) → Seeking ready kinds leads limits path len
+Inv-loop neighbours firsts seconds claims heads tails limit plant nodes width kinds k prices leads limits path₀ len₀ path len =
+    (ready : Ready neighbours firsts seconds claims heads tails limit plant nodes width k) → Seeking ready kinds prices leads limits path len
 
 abbrev μ-loop : tie.MeasureT-loop
-μ-loop neighbours firsts seconds claims heads tails limit plant nodes width kinds k prices leads orders limits path₀ len₀ path len =
+μ-loop neighbours firsts seconds claims heads tails limit plant nodes width kinds k prices leads limits path₀ len₀ path len =
     left (graphIn firsts seconds limit) (treesWith (graphIn firsts seconds limit) (rowsOn heads)) (rowsIn path) + (width - len)
 
 first-path-requires : tie.Need-first-path-requires Inv-loop μ-loop
 first-path-requires c κs = search needs
 
 loop-holds : tie.Need-loop-holds Inv-loop μ-loop
-loop-holds c = λ ready. seek-start ready _ _ _ _ (c .first-path .ensures .0) (c .first-path .ensures .1) (c .before .before .before .before .before .before .before .before .before .before .pre .2)
+loop-holds c = λ ready. seek-start ready _ _ _ _ _ (c .first-path .ensures .0) (c .first-path .ensures .1) (c .before .before .before .before .before .before .before .before .before .pre .2)
 
 add-opens : tie.Need-add-opens Inv-loop μ-loop
 add-opens c = search needs
@@ -34,28 +34,28 @@ opens-requires : tie.Need-opens-requires Inv-loop μ-loop
 opens-requires c κs = search needs
 
 add-len : tie.Need-add-len Inv-loop μ-loop
-add-len c = omega (arith, c .before .before .loop-test .taken, c .before .before .before .before .before .before .before .before .before .before .before .before .before .before .fits .width)
+add-len c = omega (arith, c .before .before .loop-test .taken, c .before .before .before .before .before .before .before .before .before .before .before .before .before .fits .width)
 
 loop-less : tie.Need-loop-less Inv-loop μ-loop
 loop-less c = omega (arith, c .before .before .loop-test .taken)
 
 loop-again : tie.Need-loop-again Inv-loop μ-loop
-loop-again c = λ ready. seek-deeper ready _ _ _ (c .before .before .before .loop .inv ready) (c .before .before .loop-test .taken) _ (c .before .opens .ensures _ (seek-asked (c .before .before .before .before .before .before .before .before .before .before .before .before .before .before .pre .0) _ _ _ (c .before .before .before .loop .inv (c .before .before .before .before .before .before .before .before .before .before .before .before .before .before .pre .0)) (c .before .before .before .before .before .before .before .before .before .before .before .before .before .before .pre .1))) (c .if1 .taken)
+loop-again c = λ ready. seek-deeper ready _ _ _ _ (c .before .before .before .loop .inv ready) (c .before .before .loop-test .taken) _ (c .before .opens .ensures _ (seek-asked (c .before .before .before .before .before .before .before .before .before .before .before .before .before .pre .0) _ _ _ _ (c .before .before .before .loop .inv (c .before .before .before .before .before .before .before .before .before .before .before .before .before .pre .0)) (c .before .before .before .before .before .before .before .before .before .before .before .before .before .pre .1))) (c .if1 .taken)
 
 add-after : tie.Need-add-after Inv-loop μ-loop
-add-after c = omega (arith, c .before .before .loop-test .taken, c .before .before .before .before .before .before .before .before .before .before .before .before .before .before .fits .width)
+add-after c = omega (arith, c .before .before .loop-test .taken, c .before .before .before .before .before .before .before .before .before .before .before .before .before .fits .width)
 
 after-requires : tie.Need-after-requires Inv-loop μ-loop
 after-requires c κs = search needs
 
 loop-less-2 : tie.Need-loop-less-2 Inv-loop μ-loop
-loop-less-2 c = omega (arith, seek-less (c .before .before .before .before .before .before .before .before .before .before .before .before .before .before .before .before .pre .0) _ _ _ (c .before .before .before .before .before .loop .inv (c .before .before .before .before .before .before .before .before .before .before .before .before .before .before .before .before .pre .0)) (c .before .before .before .before .loop-test .taken) _ (c .before .before .before .opens .ensures _ (seek-asked (c .before .before .before .before .before .before .before .before .before .before .before .before .before .before .before .before .pre .0) _ _ _ (c .before .before .before .before .before .loop .inv (c .before .before .before .before .before .before .before .before .before .before .before .before .before .before .before .before .pre .0)) (c .before .before .before .before .before .before .before .before .before .before .before .before .before .before .before .before .pre .1))) (c .before .before .if1 .left) _ (c .before .after .ensures .0) (c .before .after .ensures .2))
+loop-less-2 c = omega (arith, seek-less (c .before .before .before .before .before .before .before .before .before .before .before .before .before .before .before .pre .0) _ _ _ _ (c .before .before .before .before .before .loop .inv (c .before .before .before .before .before .before .before .before .before .before .before .before .before .before .before .pre .0)) (c .before .before .before .before .loop-test .taken) _ (c .before .before .before .opens .ensures _ (seek-asked (c .before .before .before .before .before .before .before .before .before .before .before .before .before .before .before .pre .0) _ _ _ _ (c .before .before .before .before .before .loop .inv (c .before .before .before .before .before .before .before .before .before .before .before .before .before .before .before .pre .0)) (c .before .before .before .before .before .before .before .before .before .before .before .before .before .before .before .pre .1))) (c .before .before .if1 .left) _ (c .before .after .ensures .0) (c .before .after .ensures .2))
 
 loop-again-2 : tie.Need-loop-again-2 Inv-loop μ-loop
-loop-again-2 c = λ ready. seek-after ready _ _ _ (c .before .before .before .before .before .loop .inv ready) (c .before .before .before .before .loop-test .taken) _ (c .before .before .before .opens .ensures _ (seek-asked (c .before .before .before .before .before .before .before .before .before .before .before .before .before .before .before .before .pre .0) _ _ _ (c .before .before .before .before .before .loop .inv (c .before .before .before .before .before .before .before .before .before .before .before .before .before .before .before .before .pre .0)) (c .before .before .before .before .before .before .before .before .before .before .before .before .before .before .before .before .pre .1))) (c .before .before .if1 .left) _ (c .before .after .ensures .0) (c .before .after .ensures .2)
+loop-again-2 c = λ ready. seek-after ready _ _ _ _ (c .before .before .before .before .before .loop .inv ready) (c .before .before .before .before .loop-test .taken) _ (c .before .before .before .opens .ensures _ (seek-asked (c .before .before .before .before .before .before .before .before .before .before .before .before .before .before .before .pre .0) _ _ _ _ (c .before .before .before .before .before .loop .inv (c .before .before .before .before .before .before .before .before .before .before .before .before .before .before .before .pre .0)) (c .before .before .before .before .before .before .before .before .before .before .before .before .before .before .before .pre .1))) (c .before .before .if1 .left) _ (c .before .after .ensures .0) (c .before .after .ensures .2)
 
 returns : tie.Need-returns Inv-loop μ-loop
-returns c = seek-end (c .before .before .before .before .before .before .before .before .before .before .before .before .pre .0) _ _ _ (c .before .loop .inv (c .before .before .before .before .before .before .before .before .before .before .before .before .pre .0)) (c .loop-test .left)
+returns c = seek-end (c .before .before .before .before .before .before .before .before .before .before .before .pre .0) _ _ _ _ (c .before .loop .inv (c .before .before .before .before .before .before .before .before .before .before .before .pre .0)) (c .loop-test .left)
 
 pub witness-spec : {M : Type 1} → statement M
 witness-spec =
