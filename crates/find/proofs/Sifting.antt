@@ -10,9 +10,9 @@ use lib.Dec.{leb, leb→le, le→leb}
 use lib.ListN.{getD, length, length-set, set}
 use lib.Seq.{getD-set-other}
 use borrow.Author.Tests.{leb-true}
-use Rattle.lists.specs.Lists.{largest, sum}
+use Rattle.lists.specs.Lists.{largest, pick, sum}
 use Rattle.lists.proofs.Members.{_∈_, _⊆_}
-use Rattle.lists.proofs.Tests.{T-same, T-true}
+use Rattle.lists.proofs.Tests.{T-same, T-true, pick-elim}
 use Rattle.chosen.specs.Chosen.{rowsOn}
 use Rattle.chosen.proofs.Flags.{on-mem}
 use Rattle.tally.specs.Tally.{addedIn, closingIn, costIn, daysIn, kindCost, leadIn, worstIn}
@@ -85,9 +85,12 @@ module _ (costs : List ℕ) (c limit : ℕ) (inc : List ℕ) {flags next : List 
   unfolding sum
   sifted-added base e = sifted-by (λ r. limit ≤ base + costIn costs c r) (λ r. limit ≤ addedIn costs c (r ∷ inc)) flags next (λ r h. omega arith)
 
-  pub sifted-worst : Sifted (λ r. limit ≤ 0 + costIn costs c r) flags next → Sifted (λ r. limit ≤ worstIn costs c (r ∷ inc)) flags next
+  pub sifted-worst : (base : ℕ) → base ≡ pick (leb limit (worstIn costs c inc)) limit 0 → Sifted (λ r. limit ≤ base + costIn costs c r) flags next
+      → Sifted (λ r. limit ≤ worstIn costs c (r ∷ inc)) flags next
   unfolding largest
-  sifted-worst = sifted-by (λ r. limit ≤ 0 + costIn costs c r) (λ r. limit ≤ worstIn costs c (r ∷ inc)) flags next (λ r h. omega arith)
+  sifted-worst base e = sifted-by (λ r. limit ≤ base + costIn costs c r) (λ r. limit ≤ worstIn costs c (r ∷ inc)) flags next
+      (λ r h. pick-elim (λ (x : ℕ). base ≡ x → limit ≤ worstIn costs c (r ∷ inc)) (leb limit (worstIn costs c inc))
+      (λ t d. omega (arith, leb→le limit (worstIn costs c inc) t)) (λ n d. omega (arith, h, d)) e)
 
   pub sifted-closing : (leads : List ℕ) (base : ℕ) (days : List ℕ) → base ≡ closingIn costs leads c inc → days ≡ daysIn costs leads c inc → ((r : ℕ) → leadIn leads r < 256)
       → Sifted (λ r. limit ≤ base + (costIn costs c r - getD days (leadIn leads r) 0)) flags next → Sifted (λ r. limit ≤ closingIn costs leads c (r ∷ inc)) flags next

@@ -7,6 +7,7 @@ ghost use mathlib.Core.List.{_∷_};
 ghost use Prim.Native.Nat.{_+_, _-_, _<_, _≤_, suc, ℕ};
 ghost use lib.Dec.{leb};
 ghost use lib.ListN.{getD, length, take};
+ghost use Rattle.lists.specs.Lists.{pick};
 ghost use Rattle.lists.proofs.Members.{_∈_};
 ghost use Rattle.completions.specs.Labels.{chooseFew};
 ghost use Rattle.completions.proofs.Find.{Answers};
@@ -93,6 +94,13 @@ fn keep_closing(
     next
 }
 
+// The limit where the rows that are in reach it by themselves, so that every row does beside them; else 0.
+fn already(limit: u64, worst: u32) -> u64
+    ensures { λ r. ⌜ r ≡ pick (leb limit worst) limit 0 ⌝ }
+{
+    if limit <= worst as u64 { limit } else { 0 }
+}
+
 // Without the rows that reach the limit of a criterion beside the rows that are in.
 fn keep(
     kind: u8,
@@ -108,7 +116,10 @@ fn keep(
 {
     match kind {
         0 => keep_plain(costs, c, m, limit, tally::added(costs, c, inc), flags),
-        1 => keep_plain(costs, c, m, limit, 0, flags),
+        1 => {
+            let base = already(limit, tally::worst(costs, c, inc));
+            keep_plain(costs, c, m, limit, base, flags)
+        }
         2..=255 => keep_closing(costs, leads, c, m, limit, inc, flags),
     }
 }
