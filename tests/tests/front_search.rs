@@ -355,13 +355,15 @@ fn scaled(mut network: Network) -> Network {
     network
 }
 
-/// The network with costs anywhere in their range, but for days and crossings.
+/// The network with added costs anywhere in their range.
 fn wide(mut network: Network) -> Network {
     let rng = &mut Rng::new(1);
     let kinds = network.kinds.clone();
     for row in &mut network.rows {
-        for (cost, _) in row.costs.iter_mut().zip(&kinds).filter(|(_, kind)| **kind == 0) {
-            *cost = rng.between(0, MOST as usize) as u32;
+        for (cost, kind) in row.costs.iter_mut().zip(&kinds) {
+            if *kind == 0 {
+                *cost = rng.between(0, MOST as usize) as u32;
+            }
         }
     }
     network
