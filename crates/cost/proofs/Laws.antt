@@ -4,20 +4,22 @@ use mathlib.Core.List.{List, []}
 use Prim.Native.Nat.{_<_, _≤_, ℕ}
 use native.Mathlib.Omega.{arith}
 use lib.ListN.{length, length-take, take}
+use lib.Seq.{take-all}
 use borrow.Author.Tests.{le-leb, lt-leb}
 use Rattle.lists.specs.Lists.{range}
-use Rattle.lists.proofs.Members.{_∈_, take-out}
 use Rattle.checks.specs.Checks.{answered, firstUnmet, refused}
 use Rattle.costs.specs.Costs.{costOf}
 use Rattle.network_file.specs.File.{Sizes, networkOf, sizesOf}
 use Rattle.operations.specs.Operations.{costCall, costChecks, over}
 use Rattle.operations.proofs.Costs.{path-costs}
+use Rattle.copies.specs.Copies.{copied}
+use Rattle.copies.proofs.Copies.{copied-first}
 use Rattle.drawn.specs.Answers.{drawnCall}
 use Rattle.drawn.proofs.Answers.{Passed, answered-by, call-met, call-refused, call-short}
 use Rattle.tried.specs.Answers.{drawnOf}
 use Rattle.tried.specs.declared.DrawnAnswer.{DrawnAnswer}
 use Rattle.vector.specs.Vector.{vectorOf}
-use Rattle.vector.proofs.Vectors.{rows-few, vector-costs, vector-most}
+use Rattle.vector.proofs.Vectors.{rows-few, vector-costs}
 use Rattle.paths.specs.Path.{rowsIn}
 
 -- Once `drawn` has answered d
@@ -45,12 +47,16 @@ module _ (f rows : List ℕ) (d : DrawnAnswer) (asked : drawnOf d ≡ drawnCall 
       unfolding vectorOf range
       part-length = omega (arith, length-take (s .k) v, ap length read, ap (λ (s : Sizes). s .k) sizes, passed .file .criteria-high)
 
-      pub part-small : (x : ℕ) → x ∈ take (s .k) v → x ≤ 31000000
-      part-small x m = vector-most f path (passed .file) (rows-few (d .path)) x (rw read at (take-out (s .k) v m))
-
       -- it is that of the rows as they were drawn
-      part-costs : take (s .k) v ≡ costOf (networkOf f) rows
-      part-costs = rw (sizes, read) (vector-costs f path (passed .file)) ∙ path-costs f (passed .file) rows path (passed .tree) (passed .path)
+      pub part-costs : take (s .k) v ≡ costOf (networkOf f) rows
+      part-costs = rw (sizes, read) (vector-costs f path (passed .file) (rows-few (d .path))) ∙ path-costs f (passed .file) rows path (passed .tree) (passed .path)
+
+      -- copied to the first places of a buffer that has room
+      pub part-copied : (buffer after : List ℕ) → s .k ≤ length buffer → after ≡ copied buffer 0 (take (s .k) v) (length (take (s .k) v))
+          → after ≡ over (take (s .k) v) buffer
+      part-copied buffer after room copies =
+          copies ∙ copied-first buffer (take (s .k) v)
+          ∙ ap (λ (l : List ℕ). over l buffer) (take-all (length buffer) (take (s .k) v) (omega (arith, part-length)))
 
       pub cost-vector : (buffer : List ℕ) → s .k ≤ length buffer → record { outcome = answered tt; buffers = over (take (s .k) v) buffer } ≡ costCall f rows buffer
       unfolding costCall costChecks firstUnmet

@@ -150,5 +150,9 @@ module _ (p : Path) (nodes : length (p .nodes) ≡ 32) (rows : length (p .rows) 
 pub rows-long : (p : Path) → length (p .nodes) ≡ 32 → length (p .rows) ≡ 31 → length (p .pivots) ≡ 31 → length (rowsIn p) ≡ lengthOf p
 rows-long p nodes rows pivots = length-map (keysOf p) (λ (k : Key). k .row) ∙ keys-length p nodes rows pivots
 
+-- the first places of a path's array are its rows
+pub path-rows : (p : Path) (n : ℕ) → n ≡ lengthOf p → length (p .nodes) ≡ 32 → length (p .rows) ≡ 31 → length (p .pivots) ≡ 31 → take n (p .rows) ≡ rowsIn p
+path-rows p n e nodes rows pivots = rw e (sym (rows-are p nodes rows pivots))
+
 pub row-is : (p : Path) (i : ℕ) → getD (keysOf p) i noKey .row ≡ getD (rowsIn p) i 0
 row-is p i = sym (List·getD-map (λ (k : Key). k .row) (keysOf p) i noKey)

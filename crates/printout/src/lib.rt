@@ -91,15 +91,12 @@ impl Line {
     }
 
     /// The line with the first k costs of a vector behind; it has four.
-    pub fn vector(self, vector: [u64; 4], k: usize) -> Line
+    pub fn vector(self, vector: [u32; 4], k: usize) -> Line
         ensures { λ l. ⌜ shown l ≡ take 512 (shown self ++ numbersOf (take k vector)) ⌝ }
     {
-        let mut line = self;
-        let mut i: usize = 0;
-        while i < k && i < 4 {
-            line = line.number(vector[i]);
-            i += 1;
+        if k < 4 {
+            return self.costs(&vector[..k]);
         }
-        line
+        self.costs(&vector)
     }
 }

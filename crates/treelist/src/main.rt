@@ -62,7 +62,7 @@ fn print_sizes(h: Header) {
 }
 
 // A tree line: the path's rows, then its vector.
-fn tree_line(rows: &[u16], vector: [u64; 4], k: usize) -> Line {
+fn tree_line(rows: &[u16], vector: [u32; 4], k: usize) -> Line {
     Line::start()
         .text(b"tree")
         .rows(rows)

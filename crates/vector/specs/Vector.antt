@@ -1,9 +1,9 @@
--- The cost vector of a path's rows as the code computes it: four places, of which those past the last criterion are 0.
+-- The cost vector of a path's rows as the code computes it: four places of 32 bits, of which those past the last criterion are 0.
 use mathlib.Core.Path.{_≡_}
 use mathlib.Core.Bool.{Bool}
 use mathlib.Core.Option.{Option, none, some}
 use mathlib.Core.List.{List, map}
-use Prim.Native.Nat.{_+_, _≤_, ℕ}
+use Prim.Native.Nat.{_+_, _≤_, min, ℕ}
 use lib.Dec.{eqb, ltb}
 use lib.ListN.{drop, getD, length}
 use Rattle.lists.specs.Lists.{any, pick, range}
@@ -44,5 +44,9 @@ costByte (some kind) f c rows = costBy kind (networkOf f) c rows
 unfoldable pub criterionOf : List ℕ → ℕ → List ℕ → ℕ
 criterionOf f c rows = pick (ltb c (sizesOf f .k)) (costByte (kindOf (byteAt f (9 + c))) f c rows) 0
 
+-- a cost in a place of 32 bits, held at the greatest number there is; a path of an accepted file has none above it
+abbrev pub heldOf : ℕ → ℕ
+heldOf cost = min cost 4294967295
+
 unfoldable pub vectorOf : List ℕ → List ℕ → List ℕ
-vectorOf f rows = map (λ c. criterionOf f c rows) (range 0 4)
+vectorOf f rows = map (λ c. heldOf (criterionOf f c rows)) (range 0 4)

@@ -8,7 +8,7 @@ ghost use Rattle.costs.specs.Costs.{addedCost, closingCost, costAt, streetCost,
 ghost use Rattle.costs.specs.Network.{rowAt};
 ghost use Rattle.network_file.specs.File.{networkOf};
 ghost use Rattle.paths.specs.Path.{rowsIn};
-ghost use Rattle.vector.specs.Vector.{Counted, closingAt, criterionOf, liesIn, stepRow, vectorOf};
+ghost use Rattle.vector.specs.Vector.{Counted, closingAt, criterionOf, heldOf, liesIn, stepRow, vectorOf};
 use paths::Path;
 
 /// How many rows the path has.
@@ -154,14 +154,25 @@ pub fn criterion_cost(file: &[u8], criterion: u8, path: Path) -> u64
     }
 }
 
-/// The cost vector; the places past the last criterion are 0.
-pub fn vector(file: &[u8], path: Path) -> [u64; 4]
+// A cost in a place of 32 bits: it holds at the greatest number there is.
+fn held(cost: u64) -> u32
+    ensures { λ r. ⌜ r ≡ heldOf cost ⌝ }
+{
+    if cost < 4294967295 {
+        cost as u32
+    } else {
+        4294967295
+    }
+}
+
+/// The cost vector in words of 32 bits; the places past the last criterion are 0.
+pub fn vector(file: &[u8], path: Path) -> [u32; 4]
     ensures { λ r. ⌜ r ≡ vectorOf (now (file .entry)) (rowsIn path) ⌝ }
 {
     [
-        criterion_cost(file, 0, path),
-        criterion_cost(file, 1, path),
-        criterion_cost(file, 2, path),
-        criterion_cost(file, 3, path),
+        held(criterion_cost(file, 0, path)),
+        held(criterion_cost(file, 1, path)),
+        held(criterion_cost(file, 2, path)),
+        held(criterion_cost(file, 3, path)),
     ]
 }

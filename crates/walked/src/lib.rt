@@ -12,7 +12,6 @@ ghost use Rattle.paths.specs.Path.{rowsIn};
 ghost use Rattle.scratch.specs.Scratch.{offerOf};
 ghost use Rattle.fronted.specs.Answers.{frontedOf};
 ghost use Rattle.spread.specs.Spread.{neighboursOf};
-ghost use Rattle.vector.specs.Vector.{vectorOf};
 ghost use Rattle.fronted.specs.Filled.{Filled, Holding};
 ghost use Rattle.walked.specs.Passes.{KnownRows, Laid, Passed, scratchRows};
 use ends::Rows;
@@ -31,15 +30,6 @@ fn skip_length(path: Path) -> usize
     path.length()
 }
 
-// The cost vector of a path of an accepted file, in words of 32 bits.
-fn costs_of(file: &[u8], path: Path) -> [u32; 4]
-    requires { ⌜ Accepted (now file) ⌝ }
-    ensures { λ r. ⌜ r ≡ vectorOf (now (file .entry)) (rowsIn path) ⌝ }
-{
-    let v = vector::vector(file, path);
-    [v[0] as u32, v[1] as u32, v[2] as u32, v[3] as u32]
-}
-
 // Offers a path with its vector to the scratch table, behind the known rows.
 fn offer(
     file: &[u8],
@@ -54,7 +44,7 @@ fn offer(
     requires { ⌜ Accepted (now file) × (k ≡ sizesOf (now file) .k) ⌝ }
     ensures { λ r. ⌜ record { scratch = r; costs = now (costs .exit); witnesses = now (witnesses .exit) } ≡ offerOf (now (known .entry)) count (now (costs .entry)) (now (witnesses .entry)) scratchRows scratch (costOf (networkOf (now (file .entry))) (rowsIn path)) (rowsIn path) ⌝ }
 {
-    let vector = costs_of(file, path);
+    let vector = vector::vector(file, path);
     let rows = path.rows;
     let n = path.length();
     scratch::offer(

@@ -5,7 +5,7 @@ use Prim.Native.Nat.{ℕ}
 use native.Mathlib.Omega.{arith}
 use lib.ListN.{length, length-take, take}
 use Rattle.checks.specs.Checks.{answered}
-use Rattle.cost.proofs.Laws.{cost-refused, cost-short, cost-vector, part-length, part-small}
+use Rattle.cost.proofs.Laws.{cost-refused, cost-short, cost-vector, part-copied, part-length}
 use borrow.Author.Needs.{needs}
 use Rattle.cost.proofs.cost.Statement.{statement}
 use Rattle.cost.proofs.cost.Tie as tie
@@ -42,12 +42,8 @@ array-share-prefix-costs c = omega (arith, sized c, length-take (criteria c) (c 
 slice-aggregate-vector : tie.Need-slice-aggregate-vector
 slice-aggregate-vector c = sized (c .before)
 
-put-requires : tie.Need-put-requires
-put-requires c κs =
-    let at = c .before .before in (
-      omega (arith, sized at, at .before .if2 .left),
-      part-small _ _ _ (at .before .before .before .before .before .drawn .ensures) (at .before .before .before .before .if1 .left) (at .before .before .before .header-of .ensures) (at .vector .ensures),
-    )
+copy-costs-requires : tie.Need-copy-costs-requires
+copy-costs-requires c κs = search needs
 
 same-length : tie.Need-same-length
 same-length c = search needs
@@ -55,8 +51,12 @@ same-length c = search needs
 returns-3 : tie.Need-returns-3
 returns-3 c =
     let at = c .before .before .before .before .before in
-    ap (λ (l : List ℕ). record { outcome = answered tt; buffers = l }) (c .before .before .put .ensures)
-    ∙ cost-vector _ _ _ (at .before .before .before .before .before .drawn .ensures) (at .before .before .before .before .if1 .left) (at .before .before .before .header-of .ensures) (at .vector .ensures) _ (at .before .if2 .left)
+    let drawn = at .before .before .before .before .before .drawn .ensures in
+    let some = at .before .before .before .before .if1 .left in
+    let sizes = at .before .before .before .header-of .ensures in
+    let room = at .before .if2 .left in
+    ap (λ (l : List ℕ). record { outcome = answered tt; buffers = l }) (part-copied _ _ _ drawn some sizes (at .vector .ensures) _ _ room (c .before .before .copy-costs .ensures))
+    ∙ cost-vector _ _ _ drawn some sizes (at .vector .ensures) _ room
 
 pub cost-spec : {M : Type 1} → statement M
 cost-spec =
@@ -70,6 +70,6 @@ cost-spec =
     vector-requires
     array-share-prefix-costs
     slice-aggregate-vector
-    put-requires
+    copy-costs-requires
     same-length
     returns-3)

@@ -2,13 +2,14 @@
 use mathlib.Core.Path.{_∙_, ap}
 use native.Mathlib.Omega.{arith}
 use lib.ListN.{length, length-map, length-take}
-use Rattle.walked.proofs.Vectors.{costs-are, long, path-rows}
+use Rattle.paths.proofs.Laws.{path-rows}
+use Rattle.walked.proofs.Vectors.{costs-are, long}
 use borrow.Author.Needs.{needs}
 use Rattle.walked.proofs.offer.Statement.{statement}
 use Rattle.walked.proofs.offer.Tie as tie
 
-costs-of-requires : tie.Need-costs-of-requires
-costs-of-requires c κs = search needs
+vector-requires : tie.Need-vector-requires
+vector-requires c κs = search needs
 
 length-requires : tie.Need-length-requires
 length-requires c κs = search needs
@@ -18,7 +19,7 @@ array-share-prefix-vector c = search needs
 
 slice-aggregate-offer : tie.Need-slice-aggregate-offer
 slice-aggregate-offer c =
-    let four = ap length (c .before .before .before .before .before .costs-of .ensures) ∙ long _ _ in
+    let four = ap length (c .before .before .before .before .before .vector .ensures) ∙ long _ _ in
     simp length-take (omega arith)
 
 array-share-prefix-rows : tie.Need-array-share-prefix-rows
@@ -46,13 +47,13 @@ returns c =
     let nodes = simp length-map at (c .before .before .before .before .before .before .before .before .before .before .before .before .before .before .before .before .good .1 .1 .1 .1 .1 .1 .1 .0 .1 .1 .1 .0 .1 .0 .1) in
     let pivots = simp length-map at (c .before .before .before .before .before .before .before .before .before .before .before .before .before .before .before .before .good .1 .1 .1 .1 .1 .1 .1 .0 .1 .1 .1 .1 .0 .1 .0 .1) in
     let start = c .before .before .before .before .before .before .before .before .before .before .before .before .before .before .before .before in
-    c .before .before .before .before .offer .ensures ∙ (rw (costs-are _ _ _ _ (start .pre .0) (start .pre .1) (c .before .before .before .before .before .before .before .before .before .before .before .costs-of .ensures), path-rows (start .args .path) _ (c .before .before .before .before .before .before .before .before .before .length .ensures) nodes rows pivots))
+    c .before .before .before .before .offer .ensures ∙ (rw (costs-are (start .args .path) _ _ _ (start .pre .0) (start .pre .1) (c .before .before .before .before .before .before .before .before .before .before .before .vector .ensures), path-rows (start .args .path) _ (c .before .before .before .before .before .before .before .before .before .length .ensures) nodes rows pivots))
 
 pub offer-spec : {M : Type 1} → statement M
 offer-spec =
     tie.close
     (tie.spec
-    costs-of-requires
+    vector-requires
     length-requires
     array-share-prefix-vector
     slice-aggregate-offer
