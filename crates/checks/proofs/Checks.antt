@@ -1,10 +1,10 @@
 -- Laws of numbered checks. A call is refused by the number of the first check that is not met (`stops-iff`), and answers exactly if
--- all are met (`met-all`); checks that are met are passed over (`firstUnmet-append`, `checked-next`), and the first that is not ends the call
+-- all are met (`met-all`); checks that are met are passed over (`firstUnmet-append`, `firstUnmet-skip`, `checked-next`), and the first that is not ends the call
 -- (`checked-stop`).
 use mathlib.Core.Path.{_∙_, _≡_, ap, refl}
 use mathlib.Core.Logic.{_↔_, ⊎-elim}
 use mathlib.Core.Bool.{Bool, false, true}
-use mathlib.Core.Option.{none, some}
+use mathlib.Core.Option.{Option, none, some}
 use mathlib.Core.List.{List, [], _++_, _∷_, List·Memᴰ·head as here, List·Memᴰ·cases-cons as mem-cases, List·Memᴰ·not-nil as mem-nil, List·Memᴰ·tail as there}
 use Prim.Native.Nat.{ℕ}
 use native.Mathlib.Omega.{arith}
@@ -59,6 +59,12 @@ firstUnmet-append [] ds e = refl
 firstUnmet-append (c ∷ cs) ds e =
     let (met, rest) = in-front c cs e in
     firstUnmet-met c (cs ++ ds) met ∙ firstUnmet-append cs ds rest
+
+-- a check that is met may be left out
+pub firstUnmet-skip : (cs ds : List Check) (c : Check) → c .met ≡ true → firstUnmet (cs ++ (c ∷ ds)) ≡ firstUnmet (cs ++ ds)
+unfolding firstUnmet
+firstUnmet-skip [] ds c e = firstUnmet-met c ds e
+firstUnmet-skip (d ∷ cs) ds c e = ap {B = Option ℕ} (λ o. pick (d .met) o (some (d .number))) (firstUnmet-skip cs ds c e)
 
 -- no check is unmet exactly if each is met
 pub met-all : (cs : List Check) → (firstUnmet cs ≡ none) ↔ ((c : Check) → c ∈ cs → c .met ≡ true)

@@ -98,3 +98,8 @@ module _ {A B : Type 0} (cs : List Check) (a : A) (before after : B) where
   pub ended-answered : (x : A) → ended cs a before after .outcome ≡ answered x → (firstUnmet cs ≡ none) × (a ≡ x)
   unfolding ended
   ended-answered x h = checked-answered cs a x h
+
+-- a call goes by the first of its checks that is not met
+pub ended-same : {A B : Type 0} (cs ds : List Check) (a : A) (before after : B) → firstUnmet cs ≡ firstUnmet ds → ended cs a before after ≡ ended ds a before after
+unfolding ended checked
+ended-same cs ds a before after e = ap (λ (o : Option ℕ). record { outcome = outcomeBy o a; buffers = buffersBy o before after }) e

@@ -1,6 +1,6 @@
 -- What `drawn` comes to by Open's answer (`open-stops`, `tried-drawn`), then by the states (`tree-stops`, `states-broken`, `states-kept`), and what its callers learn from its number: the first check that
 -- is not met (`refused-by`), or that all are met and the path is the tree's (`answered-by`); and a call's end with check 11 and others behind
--- (`call-refused`, `call-short`, `call-stops`, `call-met`).
+-- (`call-refused`, `call-short`, `call-rest`, `call-stops`, `call-met`).
 use mathlib.Core.Path.{_∙_, _≡_, ap, refl, subst, sym}
 use mathlib.Core.Bool.{Bool, false, true}
 use mathlib.Core.Option.{Option, none, some}
@@ -20,7 +20,7 @@ use Rattle.graph.proofs.PathOf.{pathOf-tree}
 use Rattle.graph.proofs.Steps.{steps-rows}
 use Rattle.checks.specs.Checks.{Check, Ended, answered, ended, firstUnmet, refused}
 use Rattle.checks.proofs.Checks.{firstUnmet-append, firstUnmet-met, firstUnmet-unmet, met-all, stops-iff}
-use Rattle.checks.proofs.Ended.{ended-answered, ended-met, ended-refused, ended-unmet, firstUnmet-stops, unmet-parts}
+use Rattle.checks.proofs.Ended.{ended-answered, ended-met, ended-refused, ended-same, ended-unmet, firstUnmet-stops, unmet-parts}
 use Rattle.costs.specs.Layouts.{keepsStates}
 use Rattle.bounds.proofs.Missing.{rows-map}
 use Rattle.network_file.specs.File.{Sizes, fileChecks, networkOf, openOf, sizesOf}
@@ -168,11 +168,11 @@ module _ (f rows : List ℕ) (d : DrawnAnswer) (asked : drawnOf d ≡ drawnCall 
         }
 
   -- a call with check 11, which is b, and others behind these
-  module _ {A : Type 0} (b : Bool) (others : List Check) (answer : A) (before after : List ℕ) where
+  module _ {A B : Type 0} (b : Bool) (others : List Check) (answer : A) (before after : B) where
     abbrev own : List Check
     own = check 11 b ∷ others
 
-    abbrev call : Ended A (List ℕ)
+    abbrev call : Ended A B
     call = ended (drawnTable f rows ++ own) answer before after
 
     stops : (e : ℕ) → firstUnmet (drawnTable f rows ++ own) ≡ some e → call ≡ record { outcome = refused e; buffers = before }
@@ -192,8 +192,12 @@ module _ (f rows : List ℕ) (d : DrawnAnswer) (asked : drawnOf d ≡ drawnCall 
         last : firstUnmet (drawnTable f rows ++ own) ≡ firstUnmet others
         last = own-first ∙ firstUnmet-met (check 11 b) others room
 
+        -- the others decide
+        pub call-rest : call ≡ ended others answer before after
+        call-rest = ended-same _ _ answer before after last
+
         pub call-stops : (e : ℕ) → firstUnmet others ≡ some e → call ≡ record { outcome = refused e; buffers = before }
-        call-stops e stop = stops e (last ∙ stop)
+        call-stops e stop = call-rest ∙ ended-unmet others answer before after e stop
 
         pub call-met : firstUnmet others ≡ none → call ≡ record { outcome = answered answer; buffers = after }
-        call-met met = ended-met (drawnTable f rows ++ own) answer before after (last ∙ met)
+        call-met met = call-rest ∙ ended-met others answer before after met

@@ -1,5 +1,5 @@
 -- The filled rows of both tables, one row more of them, those that stay, and a table once given rows stand in its first places.
-use mathlib.Core.Path.{_∙_, _≡_, ap, refl, sym}
+use mathlib.Core.Path.{_∙_, _≡_, ap, ap₂, refl, sym}
 use mathlib.Core.Bool.{Bool, false, not, true}
 use mathlib.Core.List.{List, [], _++_, _∷_, append-assoc, append-nil, map, map-append, Memᴰ·map as map-in, Memᴰ·of-map as map-out}
 use Prim.Native.Nat.{_*_, _+_, _-_, _≤_, suc, zero, ℕ}
@@ -62,6 +62,11 @@ paths-beside [] [] e = refl
 paths-beside [] (p ∷ ps) e = absurd (omega arith)
 paths-beside (v ∷ vs) [] e = absurd (omega arith)
 paths-beside (v ∷ vs) (p ∷ ps) e = rw (paths-beside vs ps (omega arith))
+
+beside-rows : (rows : List Row) → beside (map vectorOf rows) (map pathOf rows) ≡ rows
+unfolding beside
+beside-rows [] = refl
+beside-rows (r ∷ rows) = ap (λ (l : List Row). r ∷ l) (beside-rows rows)
 
 module _ (k w : ℕ) (c p : List ℕ) where
   in-step : (n : ℕ) → length (pieces k n c) ≡ length (pieces w n p)
@@ -169,3 +174,9 @@ module _ (f : Row → List ℕ) (k : ℕ) where
         let next : flat (map f (take p rows ++ (e ∷ drop p rows))) ≡ a ++ (f e ++ b) = rw (map-append, flat-append) in
         let size : length (a ++ (f e ++ b)) ≡ length rows * k + k = simp length-append (omega arith) in
         rw (all, next, size, append-assoc a b, ← na, ← n, insert-between a b _ (f e)) (simp (drop-drop, long, length-append, append-assoc))
+
+-- rows that stand in the first places of both tables are the filled ones
+pub filled-over : (k w : ℕ) (rows : List Row) (c p : List ℕ) → Wide vectorOf k rows → Wide pathOf w rows
+    → filled k w (length rows) (over vectorOf rows c) (over pathOf rows p) ≡ rows
+unfolding filled
+filled-over k w rows c p vectors paths = ap₂ beside (over-read vectorOf k rows c vectors) (over-read pathOf w rows p paths) ∙ beside-rows rows

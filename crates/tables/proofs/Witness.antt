@@ -1,9 +1,9 @@
 -- Rows are entries that carry a vector. At the end each row is the FIRST entry of the list with its vector, also over several passes
 -- (`Witnessed`, `plan-witnessed`; with places `plan-placed`). `Walked` is the invariant of a loop over the entries: `walked-step`,
--- `walked-walk`, and to leave entries out `walked-skip` and `walked-skip-branch`.
+-- `walked-walk`, and to leave entries out `walked-skip` and `walked-skip-branch`. With no bound the rows are the front, and first entries too (`enterAll-witnessed`).
 use mathlib.Core.Path.{_∙_, _≡_, ap, ap₂, refl, subst, sym}
 use mathlib.Core.Logic.{_⊎_, inl, inr, ⊎-elim}
-use mathlib.Core.Bool.{Bool, false, not, true}
+use mathlib.Core.Bool.{Bool, false, true}
 use mathlib.Core.Option.{Option, Option·none-ne-some, Option·some-injective, none, some}
 use mathlib.Core.List.{List, [], _++_, _∷_, append-assoc, append-nil, Memᴰ·append-right as append-right, List·Memᴰ·head as here, map, map-append, Memᴰ·of-map as map-out, List·Memᴰ·cases-cons as mem-cases, List·Memᴰ·not-nil as mem-nil, List·Memᴰ·tail as there}
 use Prim.Native.Nat.{_+_, _<_, _≤_, suc, zero, ℕ}
@@ -11,18 +11,17 @@ use native.Mathlib.Omega.{arith}
 use lib.Dec.{T, leb, ltb}
 use lib.ListN.{drop, getD, length, take}
 use lib.Seq.{append-snoc}
-use Rattle.lists.specs.Lists.{filterB, first, firstWith, pick, same, someIf}
-use Rattle.lists.proofs.Members.{_∈_, any-in, any-out, filter-out, first-here, first-there, same-in, same-of, same-out, take-out}
-use Rattle.lists.proofs.Orders.{insert-out}
+use Rattle.lists.specs.Lists.{first, firstWith, pick, same, someIf}
+use Rattle.lists.proofs.Members.{_∈_, any-in, any-out, first-here, first-there, same-in, same-of, same-out, take-out}
 use Rattle.lists.proofs.Tests.{pick-elim}
-use Rattle.costs.specs.Costs.{dominates, frontOf, noneLarger, vectorLess}
+use Rattle.costs.specs.Costs.{frontOf, noneLarger}
 use Rattle.costs.proofs.Fronts.{Sized, sized-append, sized-snoc}
 use Rattle.costs.proofs.Vectors.{noneLarger-trans}
-use Rattle.tables.specs.Tables.{Found, Plan, Table, below, bounded, conclude, enterBounded, firstAt, met, pass, passes, placed, plan, replaced, walk}
+use Rattle.tables.specs.Tables.{Found, Plan, Table, below, bounded, conclude, cutAt, enter, enterAll, enterBounded, firstAt, met, pass, passes, placed, plan, replaced, walk}
 use Rattle.tables.proofs.Bare.{bare, bare-enter, bare-met, bare-passes, barePlan}
-use Rattle.tables.proofs.Enter.{seen-met}
+use Rattle.tables.proofs.Enter.{front-whole, seen-met}
 use Rattle.tables.proofs.Known.{Known, known-nothing, rows-known}
-use Rattle.tables.proofs.Pass.{Pass, pass-step, skip-pass}
+use Rattle.tables.proofs.Pass.{Pass, cut-fits, pass-step, replaced-length, replaced-out, skip-pass}
 use Rattle.tables.proofs.Plans.{Ended, Planned, known-sized, known-start, pass-end, plan-planned}
 
 module _ {E : Type 0} (key : E → List ℕ) where
@@ -46,19 +45,13 @@ module _ {E : Type 0} (key : E → List ℕ) where
   entered-row cap s e r = pick-elim (λ (t : Table E). r ∈ t .rows → Origin) (below (s .bound) (key e))
       (λ t. pick-elim (λ (u : Table E). r ∈ u .rows → Origin) (met key (s .rows) e)
       (λ h m. inl m)
-      (λ n m. ⊎-elim
-      (λ (q : r ≡ e). inr (q, t, n))
-      (λ (i : r ∈ filterB spared (s .rows)). inl (filter-out spared (s .rows) i .0))
-      (insert-out (λ a b. vectorLess (key a) (key b)) (filterB spared (s .rows))
-      (take-out cap (replaced key (s .rows) e) (subst (λ (l : List E). r ∈ l)
+      (λ n m. ⊎-elim (λ (q : r ≡ e). inr (q, t, n)) inl
+      (replaced-out key (s .rows) e r (take-out cap (replaced key (s .rows) e) (subst (λ (l : List E). r ∈ l)
       (bounded-rows (take cap (replaced key (s .rows) e)) (s .bound) (drop cap (replaced key (s .rows) e))) m)))))
       (λ n m. inl m)
     where
       Origin : Type 0
       Origin = (r ∈ s .rows) ⊎ ((r ≡ e) × T (below (s .bound) (key e)) × (¬ T (met key (s .rows) e)))
-
-      spared : E → Bool
-      spared x = not (dominates (key e) (key x))
 
 -- The state of a pass over the entries es that has walked `done`.
 pub record Walked {E : Type 0} (key : E → List ℕ) (cap : ℕ) (known : List (List ℕ)) (es done : List E) (s : Table E) : Type 0 where
@@ -231,3 +224,34 @@ plan-placed k cap vs sized = (
   where
     w : Witnessed vectorOf cap (placed 0 vs) (plan vectorOf cap (placed 0 vs))
     w = plan-witnessed vectorOf k cap (placed 0 vs) (rw placed-vectors sized)
+
+-- Entering all entries, one after the other, with no bound: the rows are the front, each the first entry with its vector.
+module _ {E : Type 0} (key : E → List ℕ) where
+  -- with room for all, a bounded table has no bound
+  roomy : (cap : ℕ) (rows : List E) (e : E) → suc (length rows) ≤ cap
+      → enterBounded key cap (record { rows = rows; bound = none }) e ≡ record { rows = enter key rows e; bound = none }
+  roomy cap rows e h = go (met key rows e)
+    where
+      go : (b : Bool) → pick b (record { rows = rows; bound = none }) (cutAt key cap none (replaced key rows e)) ≡ record { rows = pick b rows (replaced key rows e); bound = none }
+      go true = refl
+      go false = cut-fits key cap none (replaced key rows e) (omega (arith, replaced-length key rows e))
+
+  pub enter-out : (rows : List E) (e r : E) → r ∈ enter key rows e → (r ≡ e) ⊎ (r ∈ rows)
+  enter-out rows e r = pick-elim (λ (l : List E). r ∈ l → (r ≡ e) ⊎ (r ∈ rows)) (met key rows e) (λ t m. inr m) (λ n. replaced-out key rows e r)
+
+  enter-length : (rows : List E) (e : E) → length (enter key rows e) ≤ suc (length rows)
+  enter-length rows e = pick-elim (λ (l : List E). length l ≤ suc (length rows)) (met key rows e) (λ t. omega arith) (λ n. replaced-length key rows e)
+
+  walk-roomy : (cap : ℕ) (rows es : List E) → length rows + length es ≤ cap
+      → walk key cap (record { rows = rows; bound = none }) es ≡ record { rows = enterAll key rows es; bound = none }
+  walk-roomy cap rows [] h = refl
+  walk-roomy cap rows (e ∷ es) h =
+      ap (λ (t : Table E). walk key cap t es) (roomy cap rows e (omega arith)) ∙ walk-roomy cap (enter key rows e) es (omega (arith, enter-length rows e))
+
+  pub enterAll-witnessed : (k : ℕ) (es : List E) → Sized k (map key es)
+      → (map key (enterAll key [] es) ≡ frontOf (map key es)) × Firsts key es (enterAll key [] es)
+  enterAll-witnessed k es sized =
+      let cap = length es in
+      let walked = subst (Walked key cap [] es es) (walk-roomy cap [] es (omega arith))
+      (pass-walked key k cap es sized [] (known-nothing (map key es)) (omega arith) (λ x m. absurd (mem-nil m))) in
+      (front-whole (map key es) (map key (enterAll key [] es)) (walked .pass .front), walked .firsts)
