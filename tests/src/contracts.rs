@@ -196,11 +196,12 @@ pub fn fault(row: &Row, source: &str) -> Option<String> {
     }
     for (param, kind) in &f.params {
         let value = if kind.starts_with('&') {
-            format!("(now ({param} .entry))")
+            format!("now ({param} .entry)")
         } else {
             param.clone()
         };
-        if !names(right, &value) && !right.contains(&value) {
+        // a record's field may have the parameter's name, and that is not the parameter
+        if !names(&right.replace(&format!("{param} = "), ""), &value) {
             return Some(format!(
                 "{}: {} does not have {param}",
                 row.function, row.definition

@@ -70,6 +70,23 @@ extern "C" {
         answer: *mut u32,
         answer_len: usize,
     ) -> u32;
+
+    fn planner_office(
+        file: *const u8,
+        file_len: usize,
+        rows: *const u16,
+        rows_len: usize,
+        office: u32,
+        h: u64,
+        costs: *mut u32,
+        costs_len: usize,
+        witnesses: *mut u16,
+        witnesses_len: usize,
+        filled1: u64,
+        filled2: u64,
+        answer: *mut u32,
+        answer_len: usize,
+    ) -> u32;
 }
 
 /// Open: 0 with n, m, k in the first three places of the answer, or the refusal's number.
@@ -165,6 +182,37 @@ pub fn front(file: &[u8], costs: &mut [u32], witnesses: &mut [u16], answer: &mut
             costs.len(),
             witnesses.as_mut_ptr(),
             witnesses.len(),
+            answer.as_mut_ptr(),
+            answer.len(),
+        )
+    }
+}
+
+/// A second office in the same table, entering for an office: 0 with 1 for 'entered' or 0 for 'met', and the half's new
+/// filled count, in the first two places of the answer, or the refusal's number.
+pub fn office(
+    file: &[u8],
+    rows: &[u16],
+    office: u32,
+    h: u64,
+    (costs, witnesses): (&mut [u32], &mut [u16]),
+    [filled1, filled2]: [u64; 2],
+    answer: &mut [u32],
+) -> u32 {
+    unsafe {
+        planner_office(
+            file.as_ptr(),
+            file.len(),
+            rows.as_ptr(),
+            rows.len(),
+            office,
+            h,
+            costs.as_mut_ptr(),
+            costs.len(),
+            witnesses.as_mut_ptr(),
+            witnesses.len(),
+            filled1,
+            filled2,
             answer.as_mut_ptr(),
             answer.len(),
         )

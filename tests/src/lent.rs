@@ -26,10 +26,17 @@ pub struct Lent<T> {
 impl<T: Copy + PartialEq + Debug> Lent<T> {
     /// A buffer of so many places, each with content of its own.
     pub fn new(places: usize, mut content: impl FnMut() -> T) -> Lent<T> {
-        let before: Vec<T> = (0..places + BEYOND).map(|_| content()).collect();
+        let lent: Vec<T> = (0..places).map(|_| content()).collect();
+        Lent::holding(&lent, content)
+    }
+
+    /// A buffer that holds this, with other content behind.
+    pub fn holding(lent: &[T], mut beyond: impl FnMut() -> T) -> Lent<T> {
+        let mut before = lent.to_vec();
+        before.extend((0..BEYOND).map(|_| beyond()));
         let now = before.clone();
         Lent {
-            places,
+            places: lent.len(),
             before,
             now,
         }

@@ -1,7 +1,8 @@
 //! What the tests of the proved library share: the calls, a generator of numbers, network files, what damages them,
 //! networks and drawn rows, lent buffers, the contracts in src/ as text, and independent code for document 01 in plain
-//! Rust: `reading`, `trees`, `costs` and `operations`; and for larger networks the front by a walk (`walk`, `walked`) and
-//! by a search (`search`), and the networks of the study of that search (`study`).
+//! Rust: `reading`, `trees`, `costs` and `operations`, and for two offices in one table `offices`; and for larger networks
+//! the front by a walk (`walk`, `walked`) and by a search (`search`), and the networks of the study of that search
+//! (`study`).
 
 pub mod contracts;
 pub mod costs;
@@ -10,6 +11,7 @@ pub mod draw;
 pub mod ffi;
 pub mod file;
 pub mod lent;
+pub mod offices;
 pub mod operations;
 pub mod reading;
 pub mod rng;

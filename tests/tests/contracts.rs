@@ -40,6 +40,7 @@ fn the_first_table_has_every_operation() {
         "page::page",
         "pick::pick",
         "front::front",
+        "office::office",
     ];
     assert_eq!(listed, operations);
     let said = text(&crates().join("demands/specs/Demands.antt"));
@@ -136,21 +137,28 @@ fn no_public_function_requires_anything() {
 /// The test itself can fail: each of these changes of a contract is noticed.
 #[test]
 fn a_contract_that_says_something_else_is_noticed() {
-    let row = demands()[0]
-        .iter()
-        .find(|row| row.function == "page::page")
-        .unwrap()
-        .clone();
-    let source = source_of(&row);
-    let changes = [
+    let page = [
         ("≡ pageCall (now (file", "≡ pageOther (now (file"),
         ("pageCall, startChecks}", "startChecks}"),
         ("buffers = now (page .exit) } ≡ pageCall", "buffers = now (page .entry) } ≡ pageCall"),
         ("≡ pageCall (now (file .entry)) (now (page .entry)) (now (start .entry))", "≡ pageCall (now (file .entry)) (now (page .entry)) []"),
         ("pub fn page(file: &[u8], page: &mut [u16], start: &[u16]) -> PageAnswer\n", "pub fn page(file: &[u8], page: &mut [u16], start: &[u16]) -> PageAnswer\n    requires { ⌜ 0 < length (now file) ⌝ }\n"),
     ];
-    for (old, new) in changes {
-        assert_eq!(source.matches(old).count(), 1, "{old}");
-        assert!(fault(&row, &source.replace(old, new)).is_some(), "{new}");
+    // a parameter that stands in a record
+    let office = [
+        ("(now (rows .entry)) office h (record { first = first;", "(now (rows .entry)) office h (record { first = 0;"),
+        ("office h (record { first = first; second = second }) (record { costs = now (costs .entry); witnesses = now (witnesses .entry) }) ⌝ }\n{\n    let drawn", "office h (record { first = first; second = second }) (record { costs = []; witnesses = now (witnesses .entry) }) ⌝ }\n{\n    let drawn"),
+    ];
+    for (function, changes) in [("page::page", &page[..]), ("office::office", &office[..])] {
+        let row = demands()[0]
+            .iter()
+            .find(|row| row.function == function)
+            .unwrap()
+            .clone();
+        let source = source_of(&row);
+        for (old, new) in changes {
+            assert_eq!(source.matches(old).count(), 1, "{old}");
+            assert!(fault(&row, &source.replace(old, new)).is_some(), "{new}");
+        }
     }
 }

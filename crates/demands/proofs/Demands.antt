@@ -13,6 +13,9 @@ use Rattle.network_file.specs.File.{fileChecks, networkOf, openOf}
 use Rattle.operations.specs.Operations.{check, costCall, costChecks, drawnChecks, frontCall, frontChecks, graphIn, orderCall, orderChecks, pageCall, pageChecks, reachCall, startChecks, treeChecks}
 use Rattle.operations.proofs.Runs.{claim}
 use Rattle.charges.specs.Charges.{chargeCall, chargeChecks}
+use Rattle.offices.specs.Offices.{Counts, officeCall, officeChecks}
+use Rattle.offices.proofs.Calls.{other-kept}
+use Rattle.offices.proofs.Offices.{offices}
 use Rattle.demands.specs.Demands.{Demand1, Demand2, Demand3, Passes, Tree, fileNumbers, numbers, startNumbers}
 use Rattle.demands.proofs.Fronts.{front-claim, front-is}
 use Rattle.demands.proofs.Pages.{complete, page-from}
@@ -28,9 +31,10 @@ start-others (r ∷ rs) = refl
 page-others : (f page start : List ℕ) → member 12 (numbers (check 11 (leb (width (graphIn f)) (length page)) ∷ startChecks (networkOf f) start)) ≡ false
 page-others f page start = ap (λ (l : List ℕ). member 12 (11 ∷ l)) (start-order (networkOf f) start) ∙ start-others start
 
-pub demand-1 : (f rows : List ℕ) (criterion : ℕ) (buffer page start costs witnesses : List ℕ) → Demand1 f rows criterion buffer page start costs witnesses
-unfolding openOf reachCall orderCall costCall chargeCall pageCall frontCall fileChecks orderChecks costChecks chargeChecks pageChecks frontChecks drawnChecks treeChecks
-demand-1 f rows criterion buffer page start costs witnesses = record {
+pub demand-1 : (f rows : List ℕ) (criterion : ℕ) (buffer page start costs witnesses : List ℕ) (office h : ℕ) (counts : Counts)
+    → Demand1 f rows criterion buffer page start costs witnesses office h counts
+unfolding openOf reachCall orderCall costCall chargeCall pageCall frontCall officeCall fileChecks orderChecks costChecks chargeChecks pageChecks frontChecks officeChecks drawnChecks treeChecks
+demand-1 f rows criterion buffer page start costs witnesses office h counts = record {
   opens = refuses-checked (fileChecks f) _;
   reaches = refuses-checked (fileChecks f) _;
   orders = refuses-ended (orderChecks f rows buffer) _ buffer _;
@@ -38,6 +42,7 @@ demand-1 f rows criterion buffer page start costs witnesses = record {
   charges = refuses-ended (chargeChecks f rows criterion buffer) _ buffer _;
   pages = refuses-ended (pageChecks f page start) _ page _;
   fronts = refuses-ended (frontChecks f costs witnesses) _ (record { costs = costs; witnesses = witnesses }) _;
+  notes = refuses-ended (officeChecks f rows office h counts (record { costs = costs; witnesses = witnesses })) _ (record { costs = costs; witnesses = witnesses }) _;
   pages-none = twelve f _ (page-others f page start) _ page _;
   fronts-none = twelve f _ (start-others []) _ (record { costs = costs; witnesses = witnesses }) _;
   file-order = refl;
@@ -46,6 +51,7 @@ demand-1 f rows criterion buffer page start costs witnesses = record {
   charge-order = refl;
   page-order = ap (λ (l : List ℕ). fileNumbers ++ (12 ∷ 11 ∷ l)) (start-order (networkOf f) start);
   front-order = refl;
+  office-order = refl;
 }
 
 pub demand-2 : (f : List ℕ) → Passes f → Demand2 f
@@ -67,4 +73,6 @@ demand-3 f ok rows tree =
       page-from = page-from f ok;
       is-front = front-is f ok;
       fronts = front-claim f ok some;
+      offices = offices f ok;
+      others-kept = λ rows h counts lent x. let (costs, witnesses) = other-kept f h rows counts lent x in record { costs = costs; witnesses = witnesses };
     }

@@ -1,5 +1,5 @@
--- Demand 2, of a file that passes: the one minimal path of each spanning tree (`path-of-tree`); Order, Cost and the charge of a tree of the network
--- (`drawn`); and when there is one: the list has a first member (`tree-listed`), which Reach's size and the must rows tell (`tree-exists`); 12 says that
+-- Demand 2, of a file that passes: the one minimal path of each spanning tree (`path-of-tree`); Order, Cost, the charge and an office's entry of a tree of
+-- the network (`drawn`); and when there is one: the list has a first member (`tree-listed`), which Reach's size and the must rows tell (`tree-exists`); 12 says that
 -- there is none (`twelve`).
 use mathlib.Core.Path.{_∙_, _≡_, ap, refl, subst, sym}
 use mathlib.Core.Logic.{_↔_}
@@ -15,7 +15,7 @@ use Rattle.lists.specs.Lists.{all, any, member}
 use Rattle.lists.proofs.Members.{_∈_, all-in, member-in}
 use Rattle.lists.proofs.Tests.{T-false, T-true}
 use Rattle.graph.specs.Graph.{Graph, isTree, width}
-use Rattle.graph.specs.Paths.{isMinimal, pathIn}
+use Rattle.graph.specs.Paths.{isMinimal, pathIn, pathOf}
 use Rattle.graph.proofs.PathOf.{pathOf-tree}
 use Rattle.graph.proofs.Tree.{minimal-tree, minimal-unique, tree-out}
 use Rattle.checks.specs.Checks.{Check, Ended, answered, ended, firstUnmet, refused}
@@ -27,13 +27,15 @@ use Rattle.costs.specs.Network.{Network}
 use Rattle.costs.proofs.Layouts.{keeps-same, layouts-mem}
 use Rattle.network_file.specs.File.{fileChecks, networkOf, sizesOf}
 use Rattle.network_file.proofs.Accepted.{Accepted, accepted}
-use Rattle.operations.specs.Operations.{check, costCall, costChecks, drawnChecks, graphIn, layoutsIn, orderCall, orderChecks, over, reachCall, someTree, treeChecks}
+use Rattle.operations.specs.Operations.{FrontTables, check, costCall, costChecks, drawnChecks, graphIn, layoutsIn, orderCall, orderChecks, over, reachCall, someTree, treeChecks}
 use Rattle.operations.proofs.Costs.{path-costs}
 use Rattle.operations.proofs.Exists.{size-listed, some-in, some-out}
 use Rattle.operations.proofs.Files.{formed}
 use Rattle.operations.proofs.Passing.{greatest-cost}
 use Rattle.charges.specs.Charges.{Split, addedAt, chargeCall, chargeChecks, chargeOf, chargedNodes}
 use Rattle.charges.proofs.Charges.{split, total-cost}
+use Rattle.table.specs.Enter.{Row}
+use Rattle.offices.specs.Offices.{Counts, entryOf, fitsIn, halfOf, halfRows, noteOf, officeCall, officeChecks, rowsAfter, tablesFit, written}
 use Rattle.demands.specs.Demands.{ChargeClaim, Drawn, Exists, NoTree, Passes, PathOfTree, Tree, numbers}
 
 module _ (f : List ℕ) (ok : Passes f) where
@@ -66,7 +68,7 @@ module _ (f : List ℕ) (ok : Passes f) where
         greatest = greatest-cost f a rows t;
       }
 
-  -- Order, Cost and the charge
+  -- Order, Cost, the charge and an entry
 
   module _ (rows : List ℕ) (tree : Tree f rows) where
     abbrev path : List ℕ
@@ -87,6 +89,11 @@ module _ (f : List ℕ) (ok : Passes f) where
         firstUnmet-append (fileChecks f ++ drawnChecks net rows) (c ∷ others) (firstUnmet-append (fileChecks f) (drawnChecks net rows) ok ∙ drawn-met)
         ∙ firstUnmet-met c others room ∙ met
 
+    -- what is entered for the rows
+    entry-is : (rows path : List ℕ) → costOf net rows ≡ costOf net path → pathOf g rows ≡ some path → entryOf net rows ≡ record { vector = costOf net path; path = path }
+    unfolding entryOf
+    entry-is rows path priced found = rw (priced, found)
+
     charged : (criterion : ℕ) (buffer : List ℕ) → T (addedAt net criterion) → chargedNodes f ≤ length buffer → ChargeClaim f rows path criterion buffer
     unfolding chargeCall chargeChecks firstUnmet path-of-tree
     charged criterion buffer t room =
@@ -100,6 +107,20 @@ module _ (f : List ℕ) (ok : Passes f) where
               (room-met (check 11 (leb (chargedNodes f) (length buffer))) (known ∷ []) (T-true _ .0 (le→leb _ _ room)) (firstUnmet-met known [] (T-true _ .0 t)));
         }
 
+    -- an office's call, by what is entered
+    abbrev entering : ℕ → ℕ → Counts → FrontTables → Row → Type 0
+    entering office h counts lent e =
+        let before = halfRows f h (halfOf office) counts lent in
+        T (tablesFit (sizesOf f .k) (width g) office h counts lent) → T (fitsIn h before e)
+        → officeCall f rows office h counts lent ≡ record { outcome = answered (noteOf before e); buffers = written (sizesOf f .k) (width g) h (halfOf office) (rowsAfter before e) lent }
+
+    entered : (office h : ℕ) (counts : Counts) (lent : FrontTables) → entering office h counts lent (entryOf net rows)
+    unfolding officeCall officeChecks firstUnmet
+    entered office h counts lent fit room =
+        let last = check 24 (fitsIn h (halfRows f h (halfOf office) counts lent) (entryOf net rows)) in
+        ended-met (officeChecks f rows office h counts lent) _ lent _
+        (room-met (check 11 (tablesFit (sizesOf f .k) (width g) office h counts lent)) (last ∷ []) (T-true _ .0 fit) (firstUnmet-met last [] (T-true _ .0 room)))
+
     pub drawn : Drawn f rows path
     unfolding orderCall costCall orderChecks costChecks firstUnmet path-of-tree
     drawn = record {
@@ -108,6 +129,8 @@ module _ (f : List ℕ) (ok : Passes f) where
       prices = λ buffer room. ended-met (costChecks f rows buffer) tt buffer _ (room-met (check 11 (leb (sizesOf f .k) (length buffer))) [] (T-true _ .0 (le→leb _ _ room)) refl)
           ∙ ap (λ (v : List ℕ). record { outcome = answered tt; buffers = over v buffer }) (path-of-tree rows (tree .0) .priced);
       charges = charged;
+      enters = λ office h counts lent. subst (entering office h counts lent)
+          (entry-is rows path (path-of-tree rows (tree .0) .priced) (pathOf-tree g (formed f a) rows (tree .0) .1)) (entered office h counts lent);
     }
 
   -- Whether there is a tree

@@ -14,6 +14,7 @@
 -- | page::page     | operations Operations pageCall  | 1, 3    |
 -- | pick::pick     | operations Operations pickCall  | 3       |
 -- | front::front   | operations Operations frontCall | 1, 3    |
+-- | office::office | offices Offices officeCall      | 1, 2, 3 |
 --
 -- The functions for Rust and C, each with the definition that it hands on:
 --
@@ -27,6 +28,7 @@
 -- | planner_c::planner_page   | planner_c Calls plannerPage   | pageCall   |
 -- | planner_c::planner_pick   | planner_c Calls plannerPick   | pickCall   |
 -- | planner_c::planner_front  | planner_c Calls plannerFront  | frontCall  |
+-- | planner_c::planner_office | planner_c Calls plannerOffice | officeCall |
 use mathlib.Core.Path.{_≡_}
 use mathlib.Core.Bool.{false}
 use mathlib.Core.Logic.{_↔_}
@@ -47,10 +49,13 @@ use Rattle.costs.specs.Layouts.{keepsStates, mustRows}
 use Rattle.forests.proofs.Forest.{Forest}
 use Rattle.network_file.specs.File.{fileChecks, networkOf, openOf, sizesOf}
 use Rattle.pages.specs.Pages.{capacity, pieces, restAfter}
-use Rattle.operations.specs.Operations.{Fronted, Paged, Reached, costCall, costChecks, frontCall, frontChecks, graphIn, layoutsIn, orderCall, orderChecks, over, pageCall, pageChecks, pickCall, reachCall}
+use Rattle.operations.specs.Operations.{FrontTables, Fronted, Paged, Reached, costCall, costChecks, frontCall, frontChecks, graphIn, layoutsIn, orderCall, orderChecks, over, pageCall, pageChecks, pickCall, reachCall}
 use Rattle.operations.specs.Runs.{Call, runOf}
 use Rattle.charges.specs.Charges.{Charge, Split, addedAt, chargeCall, chargeChecks, chargedNodes, chargesBy}
 use Rattle.operations.proofs.Runs.{Claim}
+use Rattle.table.specs.Enter.{Row}
+use Rattle.offices.specs.Offices.{Counts, Half, fitsIn, halfOf, halfRows, noteOf, officeCall, officeChecks, partOf, rowsAfter, tablesFit, written}
+use Rattle.offices.specs.Sequences.{Entry, OfficeClaim, numberOf, other}
 
 -- the file meets all its checks
 abbrev pub Passes : List ℕ → Type 0
@@ -85,7 +90,7 @@ startNumbers [] = []
 startNumbers (r ∷ rs) = 8 ∷ 9 ∷ 10 ∷ 15 ∷ 13 ∷ []
 
 -- Open and Reach are lent nothing to write in
-pub record Demand1 (f rows : List ℕ) (criterion : ℕ) (buffer page start costs witnesses : List ℕ) : Type 0 where
+pub record Demand1 (f rows : List ℕ) (criterion : ℕ) (buffer page start costs witnesses : List ℕ) (office h : ℕ) (counts : Counts) : Type 0 where
   pub opens : (e : ℕ) → (openOf f ≡ refused e) ↔ StopsAt (fileChecks f) e
   pub reaches : (e : ℕ) → (reachCall f ≡ refused e) ↔ StopsAt (fileChecks f) e
   pub orders : Refuses (orderChecks f rows buffer) (orderCall f rows buffer) buffer
@@ -93,20 +98,22 @@ pub record Demand1 (f rows : List ℕ) (criterion : ℕ) (buffer page start cost
   pub charges : Refuses (chargeChecks f rows criterion buffer) (chargeCall f rows criterion buffer) buffer
   pub pages : Refuses (pageChecks f page start) (pageCall f page start) page
   pub fronts : Refuses (frontChecks f costs witnesses) (frontCall f costs witnesses) (record { costs = costs; witnesses = witnesses })
+  pub notes : let lent : FrontTables = record { costs = costs; witnesses = witnesses } in Refuses (officeChecks f rows office h counts lent) (officeCall f rows office h counts lent) lent
   -- 12 exactly if there is no tree
   pub pages-none : (pageCall f page start .outcome ≡ refused 12) ↔ NoTree f
   pub fronts-none : (frontCall f costs witnesses .outcome ≡ refused 12) ↔ NoTree f
-  -- document 01's order, with 14, 15 and 22 of document 02
+  -- document 01's order, with 14, 15, 22 and 24 of document 02
   pub file-order : numbers (fileChecks f) ≡ fileNumbers
   pub order-order : numbers (orderChecks f rows buffer) ≡ fileNumbers ++ (8 ∷ 9 ∷ 10 ∷ 15 ∷ 11 ∷ [])
   pub cost-order : numbers (costChecks f rows buffer) ≡ fileNumbers ++ (8 ∷ 9 ∷ 10 ∷ 15 ∷ 11 ∷ [])
   pub charge-order : numbers (chargeChecks f rows criterion buffer) ≡ fileNumbers ++ (8 ∷ 9 ∷ 10 ∷ 15 ∷ 11 ∷ 22 ∷ [])
   pub page-order : numbers (pageChecks f page start) ≡ fileNumbers ++ (12 ∷ 11 ∷ startNumbers start)
   pub front-order : numbers (frontChecks f costs witnesses) ≡ fileNumbers ++ (12 ∷ 11 ∷ [])
+  pub office-order : numbers (officeChecks f rows office h counts (record { costs = costs; witnesses = witnesses })) ≡ fileNumbers ++ (8 ∷ 9 ∷ 10 ∷ 15 ∷ 11 ∷ 24 ∷ [])
 
 -- Demand 2, of a file that passes: each listed layout is a tree of the network, written as its minimal path; each drawn tree is turned into the one
--- minimal path with exactly its rows; each cost is the defined one, over those rows, and at most 31,000,000; and the cost in an added criterion is split
--- among nodes 2 to n without loss.
+-- minimal path with exactly its rows; each cost is the defined one, over those rows, and at most 31,000,000; the cost in an added criterion is split
+-- among nodes 2 to n without loss; and an office enters that path with that cost.
 
 -- a tree exists exactly if Reach's size is n and the must rows have no cycle
 pub record Exists (f : List ℕ) : Type 0 where
@@ -132,12 +139,19 @@ pub record ChargeClaim (f rows path : List ℕ) (criterion : ℕ) (buffer : List
   pub splits : Split (getD (costOf (networkOf f) path) criterion 0) (chargedNodes f) charge
   pub answers : chargeCall f rows criterion buffer ≡ record { outcome = answered charge; buffers = over (chargesBy charge (chargedNodes f)) buffer }
 
--- Order, Cost and the charge in an added criterion of a tree of the network, drawn in any sequence, with room for the answer
+-- Order, Cost and the charge in an added criterion of a tree of the network, drawn in any sequence, with room for the answer; and what an office enters for it
 pub record Drawn (f rows path : List ℕ) : Type 0 where
   pub orders : (buffer : List ℕ) → width (graphIn f) ≤ length buffer → orderCall f rows buffer ≡ record { outcome = answered tt; buffers = over path buffer }
   pub prices : (buffer : List ℕ) → sizesOf f .k ≤ length buffer
       → costCall f rows buffer ≡ record { outcome = answered tt; buffers = over (costOf (networkOf f) path) buffer }
   pub charges : (criterion : ℕ) (buffer : List ℕ) → T (addedAt (networkOf f) criterion) → chargedNodes f ≤ length buffer → ChargeClaim f rows path criterion buffer
+  -- where check 11 is met and the half has room
+  pub enters : (office h : ℕ) (counts : Counts) (lent : FrontTables)
+      → let before = halfRows f h (halfOf office) counts lent in
+      let entry : Row = record { vector = costOf (networkOf f) path; path = path } in
+      T (tablesFit (sizesOf f .k) (width (graphIn f)) office h counts lent) → T (fitsIn h before entry)
+      → officeCall f rows office h counts lent
+      ≡ record { outcome = answered (noteOf before entry); buffers = written (sizesOf f .k) (width (graphIn f)) h (halfOf office) (rowsAfter before entry) lent }
 
 pub record Demand2 (f : List ℕ) : Type 0 where
   pub exists : Exists f
@@ -147,7 +161,8 @@ pub record Demand2 (f : List ℕ) : Type 0 where
   pub each : (rows : List ℕ) → T (isTree (graphIn f) rows) → PathOfTree f rows
   pub drawn : (rows : List ℕ) (tree : Tree f rows) → Drawn f rows (each rows (tree .0) .path)
 
--- Demand 3, of a file that passes and whose network has a tree: the run of pages, for every list of calls; and the front beside it.
+-- Demand 3, of a file that passes and whose network has a tree: the run of pages, for every list of calls; the front beside it; and the fronts of two offices'
+-- entries, in one table.
 
 -- the trees of the network, each once, as their minimal paths
 pub record EveryTree (f : List ℕ) (written : List (List ℕ)) : Type 0 where
@@ -198,6 +213,11 @@ pub record FrontClaim (f costs witnesses : List ℕ) : Type 0 where
   pub costs-rest : drop (answer .count * sizesOf f .k) (frontCall f costs witnesses .buffers .costs) ≡ drop (answer .count * sizesOf f .k) costs
   pub witnesses-rest : drop (answer .count * width (graphIn f)) (frontCall f costs witnesses .buffers .witnesses) ≡ drop (answer .count * width (graphIn f)) witnesses
 
+-- An office's call leaves the other's rows of both tables as they were.
+pub record OtherKept (f rows : List ℕ) (h : ℕ) (counts : Counts) (lent : FrontTables) (x : Half) : Type 0 where
+  pub costs : partOf (other x) (h * sizesOf f .k) (officeCall f rows (numberOf x) h counts lent .buffers .costs) ≡ partOf (other x) (h * sizesOf f .k) (lent .costs)
+  pub witnesses : partOf (other x) (h * width (graphIn f)) (officeCall f rows (numberOf x) h counts lent .buffers .witnesses) ≡ partOf (other x) (h * width (graphIn f)) (lent .witnesses)
+
 pub record Demand3 (f : List ℕ) : Type 0 where
   pub pages : (pages : List (List ℕ)) → Claim f pages
   -- once a call says that no tree is to come, what is written is every tree, each once
@@ -206,3 +226,7 @@ pub record Demand3 (f : List ℕ) : Type 0 where
   pub page-from : (page start : List ℕ) (a : Paged) → pageCall f page start .outcome ≡ answered a → PageFrom f page start a
   pub is-front : FrontIs f
   pub fronts : (costs witnesses : List ℕ) → sizesOf f .k ≤ length costs → width (graphIn f) ≤ length witnesses → FrontClaim f costs witnesses
+  -- two offices in one table of 2 × h rows, for every sequence of entries from an empty table; and each call, whatever it is handed
+  pub offices : (h : ℕ) (lent : FrontTables) → 0 < h → length (lent .costs) ≡ 2 * (h * sizesOf f .k) → length (lent .witnesses) ≡ 2 * (h * width (graphIn f))
+      → (es : List Entry) (x : Half) → OfficeClaim f h lent es x
+  pub others-kept : (rows : List ℕ) (h : ℕ) (counts : Counts) (lent : FrontTables) (x : Half) → OtherKept f rows h counts lent x

@@ -1,6 +1,6 @@
 -- All trials of the table are right (`trials-right`): antt computes each.
 use mathlib.Core.Path.{refl}
-use Rattle.lists.specs.Lists.{all, filterB, first, insert, largest, member, range, same, sequences, sort, sum}
+use Rattle.lists.specs.Lists.{all, any, filterB, first, insert, largest, member, range, same, sequences, sort, sum}
 use Rattle.graph.specs.Graph.{isTree}
 use Rattle.graph.specs.Paths.{ascending, isMinimal, keysLess, placeOf, stepOf, stepsFrom, trees}
 use Rattle.checks.specs.Checks.{checked, ended, firstUnmet}
@@ -8,10 +8,12 @@ use Rattle.costs.specs.Cases.{caseAfter}
 use Rattle.costs.specs.Costs.{costOf, frontOf, frontTrees, noneLarger, once, someSmaller, streetsOf, treeWith, vectorLess}
 use Rattle.network_file.specs.File.{fileChecks, networkOf, openOf}
 use Rattle.operations.specs.Operations.{costCall, costChecks, drawnChecks, frontCall, frontChecks, frontOver, orderCall, orderChecks, pageCall, pageChecks, reachCall, reachedNodes, startChecks, treeChecks, wordOf}
-use Rattle.pages.specs.Pages.{behind, capacity, flat}
+use Rattle.pages.specs.Pages.{behind, capacity, flat, pieces}
+use Rattle.table.specs.Enter.{beside, filled}
 use Rattle.charges.specs.Charges.{borneBy, chargeCall, chargeChecks, chargesBy}
+use Rattle.offices.specs.Offices.{entryOf, officeCall, officeChecks, tablesFit}
 use Rattle.examples.specs.Trials.{AllRight, table}
 
 pub trials-right : AllRight table
-unfolding all range filterB first insert sort sequences same member sum largest placeOf stepOf stepsFrom ascending keysLess isMinimal isTree trees streetsOf costOf noneLarger someSmaller vectorLess caseAfter once frontOf treeWith frontTrees behind flat capacity firstUnmet checked ended networkOf fileChecks openOf reachedNodes wordOf reachCall treeChecks drawnChecks startChecks orderChecks orderCall costChecks costCall pageChecks pageCall frontOver frontChecks frontCall borneBy chargesBy chargeChecks chargeCall
-trials-right = (refl, (refl, (refl, (refl, (refl, (refl, (refl, (refl, (refl, (refl, (refl, (refl, (refl, (refl, (refl, (refl, (refl, (refl, (refl, (refl, (refl, (refl, (refl, (refl, (refl, (refl, (refl, (refl, (refl, (refl, (refl, (refl, (refl, (refl, (refl, (refl, (refl, (refl, (refl, (refl, (refl, (refl, (refl, (refl, (refl, (refl, (refl, (refl, (refl, (refl, (refl, (refl, (refl, (refl, (refl, (refl, tt))))))))))))))))))))))))))))))))))))))))))))))))))))))))
+unfolding all range filterB first insert sort sequences same member sum largest placeOf stepOf stepsFrom ascending keysLess isMinimal isTree trees streetsOf costOf noneLarger someSmaller vectorLess caseAfter once frontOf treeWith frontTrees behind flat capacity firstUnmet checked ended networkOf fileChecks openOf reachedNodes wordOf reachCall treeChecks drawnChecks startChecks orderChecks orderCall costChecks costCall pageChecks pageCall frontOver frontChecks frontCall borneBy chargesBy chargeChecks chargeCall any beside filled pieces entryOf tablesFit officeChecks officeCall
+trials-right = (refl, (refl, (refl, (refl, (refl, (refl, (refl, (refl, (refl, (refl, (refl, (refl, (refl, (refl, (refl, (refl, (refl, (refl, (refl, (refl, (refl, (refl, (refl, (refl, (refl, (refl, (refl, (refl, (refl, (refl, (refl, (refl, (refl, (refl, (refl, (refl, (refl, (refl, (refl, (refl, (refl, (refl, (refl, (refl, (refl, (refl, (refl, (refl, (refl, (refl, (refl, (refl, (refl, (refl, (refl, (refl, (refl, (refl, (refl, (refl, (refl, (refl, (refl, (refl, (refl, (refl, (refl, (refl, (refl, (refl, tt))))))))))))))))))))))))))))))))))))))))))))))))))))))))))))))))))))))

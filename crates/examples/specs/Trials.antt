@@ -1,6 +1,6 @@
 -- Document 01's starred trials, as questions to the definitions of the operations, each with its answer, on network A's file; and trials
 -- of document 02's row states (#102) and first witness (#101) on files with the same ends, of streets closed once (#103) on network C's, of
--- comparison by cases (#105), and of the connection charge (#109).
+-- comparison by cases (#105), of the connection charge (#109), and of two offices in one table (#111).
 use mathlib.Core.Path.{_≡_}
 use mathlib.Core.Bool.{Bool, false, true}
 use mathlib.Core.List.{List, [], _∷_, map}
@@ -14,6 +14,7 @@ use Rattle.costs.specs.Network.{Network}
 use Rattle.network_file.specs.File.{Sizes, networkOf, openOf}
 use Rattle.operations.specs.Operations.{FrontTables, Fronted, Paged, Reached, costCall, frontCall, layoutsIn, orderCall, pageCall, reachCall}
 use Rattle.charges.specs.Charges.{Charge, chargeCall, chargeOf, chargesBy}
+use Rattle.offices.specs.Offices.{Counts, Noted, officeCall}
 use Rattle.examples.specs.Examples.{A, B, C}
 
 -- the 59 bytes of network A's file: the sizes, the kinds, and a line for each row
@@ -74,6 +75,8 @@ pub data Trial : Type 0 where
   cost : List ℕ → List ℕ → Ended (Unit {0}) (List ℕ) → Trial
   -- the connection charge of them in this criterion, into this buffer
   charge : List ℕ → List ℕ → ℕ → List ℕ → Ended Charge (List ℕ) → Trial
+  -- an office's entry of them, with this h, these filled counts and these tables
+  office : List ℕ → List ℕ → ℕ → ℕ → Counts → FrontTables → Ended Noted FrontTables → Trial
   -- Page after this path, with a page of three places
   page : List ℕ → List ℕ → Ended Paged (List ℕ) → Trial
   -- Front with tables of three places each, which hold one row
@@ -96,6 +99,7 @@ Right (reached f o) = reachCall f ≡ o
 Right (order f rows e) = orderCall f rows buffer ≡ e
 Right (cost f rows e) = costCall f rows buffer ≡ e
 Right (charge f rows criterion buffer e) = chargeCall f rows criterion buffer ≡ e
+Right (office f rows number h counts lent e) = officeCall f rows number h counts lent ≡ e
 Right (page f start e) = pageCall f buffer start ≡ e
 Right (frontIn f e) = frontCall f buffer buffer ≡ e
 Right (dominance v w b) = dominates v w ≡ b
@@ -121,6 +125,23 @@ paged count more after = record { outcome = answered (record { count = count; mo
 
 abbrev fronted : ℕ → Bool → List ℕ → List ℕ → Ended Fronted FrontTables
 fronted count whole costs witnesses = record { outcome = answered (record { count = count; whole = whole }); buffers = record { costs = costs; witnesses = witnesses } }
+
+-- two offices' tables of 2 × h rows of two places each, h of them for each office
+abbrev tables : List ℕ → List ℕ → FrontTables
+tables costs witnesses = record { costs = costs; witnesses = witnesses }
+
+abbrev filled : ℕ → ℕ → Counts
+filled first second = record { first = first; second = second }
+
+-- one row for each office, of which the second has the tree 0 2
+abbrev lent : FrontTables
+lent = tables (1 ∷ 2 ∷ 9 ∷ 7 ∷ []) (5 ∷ 6 ∷ 0 ∷ 2 ∷ [])
+
+abbrev noted : Bool → ℕ → List ℕ → List ℕ → Ended Noted FrontTables
+noted new count costs witnesses = record { outcome = answered (record { entered = new; count = count }); buffers = tables costs witnesses }
+
+abbrev notNoted : ℕ → Ended Noted FrontTables
+notNoted e = record { outcome = refused e; buffers = lent }
 
 abbrev pub table : List Trial
 table =
@@ -190,4 +211,24 @@ table =
     ∷ charges 12 5 (3 ∷ 3 ∷ 3 ∷ 3 ∷ [])
     ∷ charges 2 5 (1 ∷ 1 ∷ 0 ∷ 0 ∷ [])
     ∷ charges 7 2 (7 ∷ [])
+    -- document 02, #111: 8 6 takes the row of 9 7 in the second half, and stands in the first, whose row is not filled; 9 7 is met, and 11 5 needs a row more
+    ∷ office fileA (3 ∷ 2 ∷ []) 2 1 (filled 0 1) lent (noted true 1 (1 ∷ 2 ∷ 8 ∷ 6 ∷ []) (5 ∷ 6 ∷ 2 ∷ 3 ∷ []))
+    ∷ office fileA (3 ∷ 2 ∷ []) 1 1 (filled 0 1) lent (noted true 1 (8 ∷ 6 ∷ 9 ∷ 7 ∷ []) (2 ∷ 3 ∷ 0 ∷ 2 ∷ []))
+    ∷ office fileA (2 ∷ 0 ∷ []) 2 1 (filled 0 1) lent (noted false 1 (1 ∷ 2 ∷ 9 ∷ 7 ∷ []) (5 ∷ 6 ∷ 0 ∷ 2 ∷ []))
+    ∷ office fileA (2 ∷ 1 ∷ []) 2 1 (filled 0 1) lent (notNoted 24)
+    -- a filled row 1 2 meets every tree
+    ∷ office fileA (3 ∷ 2 ∷ []) 1 1 (filled 1 1) lent (noted false 1 (1 ∷ 2 ∷ 9 ∷ 7 ∷ []) (5 ∷ 6 ∷ 0 ∷ 2 ∷ []))
+    -- 11: the office, h, the tables' rows, a count; 10 and 15 before it
+    ∷ office fileA (2 ∷ 0 ∷ []) 3 1 (filled 0 1) lent (notNoted 11)
+    ∷ office fileA (2 ∷ 0 ∷ []) 2 0 (filled 0 0) lent (notNoted 11)
+    ∷ office fileA (2 ∷ 0 ∷ []) 2 2 (filled 0 1) lent (notNoted 11)
+    ∷ office fileA (2 ∷ 0 ∷ []) 2 9223372036854775809 (filled 0 1) lent (notNoted 11)
+    ∷ office fileA (2 ∷ 0 ∷ []) 2 1 (filled 2 1) lent (notNoted 11)
+    ∷ office fileA (0 ∷ 1 ∷ []) 3 0 (filled 9 9) lent (notNoted 10)
+    ∷ office fileB (2 ∷ 1 ∷ []) 3 0 (filled 9 9) lent (notNoted 15)
+    -- 7 7 stands before 8 6; 8 6 takes the rows of 9 6 and 9 7, and the second keeps its content
+    ∷ office fileA (0 ∷ 3 ∷ []) 1 2 (filled 1 0) (tables (8 ∷ 6 ∷ 0 ∷ 0 ∷ 0 ∷ 0 ∷ 0 ∷ 0 ∷ []) (2 ∷ 3 ∷ 4 ∷ 4 ∷ 4 ∷ 4 ∷ 4 ∷ 4 ∷ []))
+    (noted true 2 (7 ∷ 7 ∷ 8 ∷ 6 ∷ 0 ∷ 0 ∷ 0 ∷ 0 ∷ []) (0 ∷ 3 ∷ 2 ∷ 3 ∷ 4 ∷ 4 ∷ 4 ∷ 4 ∷ []))
+    ∷ office fileA (2 ∷ 3 ∷ []) 1 2 (filled 2 0) (tables (9 ∷ 6 ∷ 9 ∷ 7 ∷ 0 ∷ 0 ∷ 0 ∷ 0 ∷ []) (1 ∷ 3 ∷ 0 ∷ 2 ∷ 4 ∷ 4 ∷ 4 ∷ 4 ∷ []))
+    (noted true 1 (8 ∷ 6 ∷ 9 ∷ 7 ∷ 0 ∷ 0 ∷ 0 ∷ 0 ∷ []) (2 ∷ 3 ∷ 0 ∷ 2 ∷ 4 ∷ 4 ∷ 4 ∷ 4 ∷ []))
     ∷ []

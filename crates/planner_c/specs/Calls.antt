@@ -11,6 +11,7 @@ use Rattle.checks.specs.Checks.{Ended, Outcome, answered, refused}
 use Rattle.network_file.specs.File.{Sizes, openOf}
 use Rattle.operations.specs.Operations.{FrontTables, Fronted, Paged, Reached, costCall, frontCall, orderCall, over, pageCall, pickCall, reachCall}
 use Rattle.charges.specs.Charges.{Charge, chargeCall}
+use Rattle.offices.specs.Offices.{Counts, Noted, officeCall}
 
 pub record Called (B : Type 0) : Type 0 where
   pub code : ℕ
@@ -72,6 +73,9 @@ pagedValues p = held (p .count) ∷ digit (p .more) ∷ []
 abbrev pub frontedValues : Fronted → List ℕ
 frontedValues a = held (a .count) ∷ digit (a .whole) ∷ []
 
+abbrev pub notedValues : Noted → List ℕ
+notedValues a = digit (a .entered) ∷ held (a .count) ∷ []
+
 -- Open: n, m and k.
 unfoldable pub plannerOpen : List ℕ → List ℕ → Called (List ℕ)
 plannerOpen file answer = answering 3 sizeValues (openOf file) answer
@@ -106,3 +110,7 @@ plannerPage file page start answer = answeringBeside 2 pagedValues (pageCall fil
 unfoldable pub plannerFront : List ℕ → List ℕ → List ℕ → List ℕ → Called (Beside FrontTables)
 plannerFront file costs witnesses answer =
     answeringBeside 2 frontedValues (frontCall file costs witnesses) (record { costs = costs; witnesses = witnesses }) answer
+
+-- A second office in the same table: 1 for 'entered' or 0 for 'met', and the half's new filled count.
+unfoldable pub plannerOffice : List ℕ → List ℕ → ℕ → ℕ → Counts → FrontTables → List ℕ → Called (Beside FrontTables)
+plannerOffice file rows office h counts lent answer = answeringBeside 2 notedValues (officeCall file rows office h counts lent) lent answer

@@ -4,11 +4,12 @@ use charge::Charged;
 use cost::Costed;
 use fronted::FrontAnswer;
 use network::Opened;
+use office::OfficeAnswer;
 use order::Ordered;
 use page::PageAnswer;
 use reach::ReachAnswer;
 ghost use mathlib.Core.Path.{_≡_};
-ghost use Rattle.planner_c.specs.Calls.{digit, held, plannerCharge, plannerCost, plannerFront, plannerOpen, plannerOrder, plannerPage, plannerPick, plannerReach};
+ghost use Rattle.planner_c.specs.Calls.{digit, held, plannerCharge, plannerCost, plannerFront, plannerOffice, plannerOpen, plannerOrder, plannerPage, plannerPick, plannerReach};
 
 /// Open: 0 with n, m and k in the first three places of the answer; the refusal's number; or 255 where the answer has
 /// under three places.
@@ -182,5 +183,44 @@ pub extern "C" fn planner_front(
             0
         }
         FrontAnswer::Refused(number) => number as u32,
+    }
+}
+
+/// A second office in the same table: 0 with 1 for 'entered' or 0 for 'met', and the half's new filled count, in the first
+/// two places of the answer; the refusal's number; or 255 where the answer has under two places.
+#[no_mangle]
+pub extern "C" fn planner_office(
+    file: &[u8],
+    rows: &[u16],
+    office: u32,
+    h: u64,
+    costs: &mut [u32],
+    witnesses: &mut [u16],
+    filled1: u64,
+    filled2: u64,
+    answer: &mut [u32],
+) -> u32
+    ensures { λ r. ⌜ record { code = r; buffers = record { lent = record { costs = now (costs .exit); witnesses = now (witnesses .exit) }; answer = now (answer .exit) } } ≡ plannerOffice (now (file .entry)) (now (rows .entry)) office h (record { first = filled1; second = filled2 }) (record { costs = now (costs .entry); witnesses = now (witnesses .entry) }) (now (answer .entry)) ⌝ }
+{
+    if answer.len() < 2 {
+        return 255;
+    }
+    let noted = office::office(
+        file,
+        rows,
+        office,
+        h as usize,
+        costs,
+        witnesses,
+        filled1 as usize,
+        filled2 as usize,
+    );
+    match noted {
+        OfficeAnswer::Rows { entered, count } => {
+            answer[0] = digit_of(entered);
+            answer[1] = held_count(count);
+            0
+        }
+        OfficeAnswer::Refused(number) => number as u32,
     }
 }
