@@ -10,7 +10,7 @@ ghost use Rattle.office.specs.Answers.{noteBy, noteCall, notedOf};
 use paths::Path;
 use table::Entered;
 
-/// The answer: whether the vector was entered, or met by a row, and how many rows of the half are filled now.
+/// The answer of Office: whether the vector was entered, or met by a row, and how many rows of the half are filled now.
 pub enum OfficeAnswer {
     Rows { entered: bool, count: usize },
     Refused(u8),
@@ -105,7 +105,8 @@ fn note(
     noted(entered, second)
 }
 
-/// Enters the drawn rows for an office: its half of both tables, of h rows, holds so many filled ones.
+/// Office: the drawn rows entered in the office's half of both tables. Each half has h rows, of which the first `first` and
+/// `second` are filled.
 pub fn office(
     file: &[u8],
     rows: &[u16],
