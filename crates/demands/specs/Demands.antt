@@ -55,7 +55,7 @@ use Rattle.charges.specs.Charges.{Charge, Split, addedAt, chargeCall, chargeChe
 use Rattle.operations.proofs.Runs.{Claim}
 use Rattle.table.specs.Enter.{Row}
 use Rattle.offices.specs.Offices.{Counts, Half, fitsIn, halfOf, halfRows, noteOf, officeCall, officeChecks, partOf, rowsAfter, tablesFit, written}
-use Rattle.offices.specs.Sequences.{Entry, OfficeClaim, numberOf, other}
+use Rattle.offices.specs.Sequences.{Entry, OfficeClaim, officeOf, other}
 
 -- the file meets all its checks
 abbrev pub Passes : List ℕ → Type 0
@@ -215,8 +215,8 @@ pub record FrontClaim (f costs witnesses : List ℕ) : Type 0 where
 
 -- An office's call leaves the other's rows of both tables as they were.
 pub record OtherKept (f rows : List ℕ) (h : ℕ) (counts : Counts) (lent : FrontTables) (x : Half) : Type 0 where
-  pub costs : partOf (other x) (h * sizesOf f .k) (officeCall f rows (numberOf x) h counts lent .buffers .costs) ≡ partOf (other x) (h * sizesOf f .k) (lent .costs)
-  pub witnesses : partOf (other x) (h * width (graphIn f)) (officeCall f rows (numberOf x) h counts lent .buffers .witnesses) ≡ partOf (other x) (h * width (graphIn f)) (lent .witnesses)
+  pub costs : partOf (other x) (h * sizesOf f .k) (officeCall f rows (officeOf x) h counts lent .buffers .costs) ≡ partOf (other x) (h * sizesOf f .k) (lent .costs)
+  pub witnesses : partOf (other x) (h * width (graphIn f)) (officeCall f rows (officeOf x) h counts lent .buffers .witnesses) ≡ partOf (other x) (h * width (graphIn f)) (lent .witnesses)
 
 pub record Demand3 (f : List ℕ) : Type 0 where
   pub pages : (pages : List (List ℕ)) → Claim f pages

@@ -1,5 +1,5 @@
--- Entering in a half: what `table::enter` makes of the office's part is the rest of the call behind check 11 (`half-noted`), in the shapes in which the parts are lent:
--- the first half up to its end (`first-noted`), the second from there on (`second-noted`).
+-- Entering in a half, in the shapes in which the parts are lent: the first half up to the middle (`first-noted`), the second from there on (`second-noted`).
+-- Of tables of exactly 2 × h rows it is the rest of the call behind check 11 (`half-noted`).
 use mathlib.Core.Path.{_∙_, _≡_, ap, ap₂, sym}
 use mathlib.Core.Bool.{Bool, false, not, true}
 use mathlib.Core.List.{List, [], _++_, _∷_, append-nil}
@@ -20,16 +20,53 @@ use Rattle.pages.specs.Pages.{capacity}
 use Rattle.table.specs.Enter.{EnterEnd, Row, costsOver, enterCall, entered, full, met, witnessesOver}
 use Rattle.table.proofs.Filled.{filled-length, over-whole, pathOf, paths-are, vectorOf, vectors-are}
 use Rattle.operations.specs.Operations.{FrontTables, check}
-use Rattle.offices.specs.Offices.{Counts, Half, Noted, countOf, firstHalf, halfOf, partOf, rowsIn, secondHalf, withPart, written}
+use Rattle.offices.specs.Offices.{Counts, Half, Noted, countOf, filledIn, fitsIn, halfOf, noteOf, partOf, rowsAfter, withPart, written}
 use Rattle.offices.proofs.Calls.{Good, count-few}
 use Rattle.offices.proofs.Parts.{part-back, part-long}
 use Rattle.office.specs.Answers.{noteBy, noteCall}
 
--- half of a table of exactly 2 × h rows
+-- As the code lends the parts and the path's rows, and gets the parts back
+
+module _ (office : ℕ) (counts : Counts) (lent : FrontTables) (v p : List ℕ) (end : EnterEnd) (outcome : Outcome Noted) {tree : List ℕ} (tree-is : tree ≡ p) where
+  abbrev a : ℕ
+  a = length (lent .costs) / 2
+
+  abbrev b : ℕ
+  b = length (lent .witnesses) / 2
+
+  pub first-noted : office ≡ 1 → end ≡ enterCall (take a (lent .costs)) (take b (lent .witnesses)) (counts .first) v tree → outcome ≡ noteBy (end .answer) (counts .first)
+      → record { outcome = outcome; buffers = record { costs = end .costs ++ drop a (lent .costs); witnesses = end .witnesses ++ drop b (lent .witnesses) } }
+      ≡ noteCall office counts lent (record { vector = v; path = p })
+  unfolding noteCall
+  first-noted q is said = rw (said, is, tree-is, q)
+
+  -- nothing stands behind the second half
+  behind : (t : List ℕ) (n : ℕ) → drop (length t - n) (drop n t) ≡ []
+  behind t n = drop-of-length-le (drop n t) {i = length t - n} (simp length-drop (omega arith))
+
+  whole : (t : List ℕ) (n : ℕ) → take (length t - n) (drop n t) ≡ drop n t
+  whole t n = take-all (length t - n) (drop n t) (simp length-drop (omega arith))
+
+  pub second-noted : ¬ (office ≡ 1)
+      → end ≡ enterCall (take (length (lent .costs) - a) (drop a (lent .costs))) (take (length (lent .witnesses) - b) (drop b (lent .witnesses))) (counts .second) v tree
+      → outcome ≡ noteBy (end .answer) (counts .second)
+      → record {
+        outcome = outcome;
+        buffers = record {
+          costs = take a (lent .costs) ++ (end .costs ++ drop (length (lent .costs) - a) (drop a (lent .costs)));
+          witnesses = take b (lent .witnesses) ++ (end .witnesses ++ drop (length (lent .witnesses) - b) (drop b (lent .witnesses)));
+        };
+      } ≡ noteCall office counts lent (record { vector = v; path = p })
+  unfolding noteCall
+  second-noted n is said =
+      rw (said, behind (lent .costs) a, behind (lent .witnesses) b, append-nil (end .costs), append-nil (end .witnesses), is, tree-is, whole (lent .costs) a, whole (lent .witnesses) b, ne-eqb office 1 n)
+
+-- Of tables of exactly 2 × h rows
+
 half-is : (t : List ℕ) (size : ℕ) → length t ≡ 2 * size → length t / 2 ≡ size
 half-is t size e = ap (λ (n : ℕ). n / 2) (e ∙ mul-comm 2 size) ∙ mul-div-cancel size {n = 2} (omega arith)
 
-module _ (office h : ℕ) (counts : Counts) (lent : FrontTables) (v p : List ℕ) (some-costs : 0 < length v) (some-rows : 0 < length p)
+module _ (h : ℕ) (counts : Counts) (lent : FrontTables) (v p : List ℕ) (some-costs : 0 < length v) (some-rows : 0 < length p)
     (g : Good (length v) (length p) h counts lent) where
   abbrev k : ℕ
   k = length v
@@ -51,7 +88,7 @@ module _ (office h : ℕ) (counts : Counts) (lent : FrontTables) (v p : List ℕ
     count = countOf x counts
 
     abbrev rows : List Row
-    rows = rowsIn k w h x counts lent
+    rows = filledIn k w h x counts lent
 
     abbrev new : List Row
     new = tables.replaced vectorOf rows e
@@ -116,45 +153,11 @@ module _ (office h : ℕ) (counts : Counts) (lent : FrontTables) (v p : List ℕ
           (sym (ended-unmet (check 24 (leb (length new) h) ∷ []) _ lent _ 24 (firstUnmet-unmet (check 24 (leb (length new) h)) [] (lt-leb (length new) h (omega arith)))))
     ]
 
-    half-noted : halfOf office ≡ x → callBy (enterCall costs witnesses count v p) ≡ noteCall office h counts lent e
-    unfolding noteCall
-    half-noted q = ap callBy end-is ∙ by-tests (tables.met vectorOf rows e) ∙ (rw q)
+    by-half : callBy (enterCall costs witnesses count v p) ≡ restBy (tables.met vectorOf rows e)
+    by-half = ap callBy end-is ∙ by-tests (tables.met vectorOf rows e)
 
-  -- as the code lends the parts and the path's rows, and gets the parts back
-  module _ (end : EnterEnd) (outcome : Outcome Noted) {tree : List ℕ} (tree-is : tree ≡ p) where
-    abbrev a : ℕ
-    a = length (lent .costs) / 2
-
-    abbrev b : ℕ
-    b = length (lent .witnesses) / 2
-
-    a-is : a ≡ h * k
-    a-is = half-is (lent .costs) (h * k) (g .costs)
-
-    b-is : b ≡ h * w
-    b-is = half-is (lent .witnesses) (h * w) (g .witnesses)
-
-    pub first-noted : office ≡ 1 → end ≡ enterCall (take a (lent .costs)) (take b (lent .witnesses)) (counts .first) v tree → outcome ≡ noteBy (end .answer) (counts .first)
-        → record { outcome = outcome; buffers = record { costs = end .costs ++ drop a (lent .costs); witnesses = end .witnesses ++ drop b (lent .witnesses) } } ≡ noteCall office h counts lent e
-    first-noted q is said = rw (said, is, tree-is, a-is, b-is) (half-noted firstHalf (ap halfOf q))
-
-    -- nothing stands behind the second half
-    behind : (t : List ℕ) (n : ℕ) → drop (length t - n) (drop n t) ≡ []
-    behind t n = drop-of-length-le (drop n t) {i = length t - n} (simp length-drop (omega arith))
-
-    whole : (t : List ℕ) (n : ℕ) → take (length t - n) (drop n t) ≡ drop n t
-    whole t n = take-all (length t - n) (drop n t) (simp length-drop (omega arith))
-
-    pub second-noted : ¬ (office ≡ 1)
-        → end ≡ enterCall (take (length (lent .costs) - a) (drop a (lent .costs))) (take (length (lent .witnesses) - b) (drop b (lent .witnesses))) (counts .second) v tree
-        → outcome ≡ noteBy (end .answer) (counts .second)
-        → record {
-          outcome = outcome;
-          buffers = record {
-            costs = take a (lent .costs) ++ (end .costs ++ drop (length (lent .costs) - a) (drop a (lent .costs)));
-            witnesses = take b (lent .witnesses) ++ (end .witnesses ++ drop (length (lent .witnesses) - b) (drop b (lent .witnesses)));
-          };
-        } ≡ noteCall office h counts lent e
-    second-noted n is said =
-        rw (said, behind (lent .costs) a, behind (lent .witnesses) b, append-nil (end .costs), append-nil (end .witnesses), is, tree-is, whole (lent .costs) a, whole (lent .witnesses) b, a-is, b-is)
-        (half-noted secondHalf (rw (ne-eqb office 1 n)))
+  pub half-noted : (office : ℕ) → noteCall office counts lent e
+      ≡ (let rows = filledIn k w h (halfOf office) counts lent in
+      ended (check 24 (fitsIn h rows e) ∷ []) (noteOf rows e) lent (written k w h (halfOf office) (rowsAfter rows e) lent))
+  unfolding noteCall
+  half-noted office = rw (half-is (lent .costs) (h * k) (g .costs), half-is (lent .witnesses) (h * w) (g .witnesses)) (by-half (halfOf office))

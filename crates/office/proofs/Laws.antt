@@ -1,9 +1,9 @@
 -- Laws of an entry: a table's rows by division (`rows-exact`, `rows-other`), check 11 by its tests (`unfit`, `fit-last`), and
 -- the call's end by the number of `drawn` and check 11.
-use mathlib.Core.Path.{_∙_, _≡_, ap, refl, subst, sym}
+use mathlib.Core.Path.{_∙_, _≡_, ap, ap₂, refl, subst, sym}
 use mathlib.Core.Logic.{⊎-elim}
 use mathlib.Core.Bool.{Bool, false, true}
-use mathlib.Core.List.{List}
+use mathlib.Core.List.{List, [], _∷_}
 use Prim.Native.Nat.{_%_, _*_, _+_, _/_, _<_, _≤_, pred, ℕ}
 use native.Mathlib.Decide.{decLe, ℕ-discrete}
 use native.Mathlib.Nat.{div-add-mod, mul-assoc, mul-comm, mul-div-cancel}
@@ -13,14 +13,14 @@ use lib.ListN.{length, take}
 use borrow.Author.Tests.{eq-eqb, le-leb, lt-leb, ne-eqb}
 use Rattle.lists.specs.Lists.{either}
 use Rattle.lists.proofs.Tests.{T-either, T-true}
-use Rattle.checks.specs.Checks.{refused}
+use Rattle.checks.specs.Checks.{Ended, ended, refused}
 use Rattle.graph.specs.Graph.{width}
 use Rattle.table.specs.Enter.{Row}
 use Rattle.network_file.specs.File.{Sizes, networkOf, sizesOf}
-use Rattle.operations.specs.Operations.{FrontTables, graphIn}
+use Rattle.operations.specs.Operations.{FrontTables, check, graphIn}
 use Rattle.operations.proofs.Files.{node-count}
-use Rattle.offices.specs.Offices.{Counts, entryOf, officeCall, officeChecks, tablesFit}
-use Rattle.offices.proofs.Calls.{Good, entry-path, entry-vector, fits-in, fits-out}
+use Rattle.offices.specs.Offices.{Counts, Noted, entryOf, filledIn, fitsIn, halfOf, noteOf, officeCall, officeChecks, rowsAfter, tablesFit, written}
+use Rattle.offices.proofs.Calls.{Good, fits-in, fits-out}
 use Rattle.paths.specs.Path.{rowsIn}
 use Rattle.vector.specs.Vector.{vectorOf}
 use Rattle.drawn.specs.Answers.{drawnCall}
@@ -29,6 +29,7 @@ use Rattle.tried.specs.Answers.{drawnOf}
 use Rattle.tried.specs.declared.DrawnAnswer.{DrawnAnswer}
 use Rattle.cost.proofs.Laws.{part-costs, part-length}
 use Rattle.office.specs.Answers.{noteCall}
+use Rattle.office.proofs.Halves.{half-noted}
 
 -- Whether a table has exactly 2 × h rows
 
@@ -126,18 +127,23 @@ module _ (f drawn : List ℕ) (d : DrawnAnswer) (asked : drawnOf d ≡ drawnCall
         abbrev entry : Row
         entry = record { vector = take (s .k) v; path = rowsIn (d .path) }
 
-        pub entry-fits : (0 < length (entry .vector)) × (0 < length (entry .path)) × T (tablesFit (length (entry .vector)) (length (entry .path)) office h counts lent)
-        entry-fits =
-            let (k-low, _, w-low, _) = sizes-are z sizes in
-            rw (← (part-length f drawn d asked z sizes read), path-long z sizes) (k-low, w-low, T-true (tablesFit (s .k) (length drawn) office h counts lent) .1 fit)
-
         entry-is : entry ≡ entryOf (networkOf f) drawn
         unfolding entryOf
         entry-is = rw (part-costs f drawn d asked z sizes read, passed z sizes .path)
 
-        pub office-noted : noteCall office h counts lent entry ≡ officeCall f drawn office h counts lent
-        unfolding noteCall officeCall officeChecks
+        -- the call behind check 11, of rows so wide
+        abbrev rest : ℕ → ℕ → Row → Ended Noted FrontTables
+        rest k w e =
+            let rows = filledIn k w h (halfOf office) counts lent in
+            ended (check 24 (fitsIn h rows e) ∷ []) (noteOf rows e) lent (written k w h (halfOf office) (rowsAfter rows e) lent)
+
+        pub office-noted : noteCall office counts lent entry ≡ officeCall f drawn office h counts lent
+        unfolding officeCall officeChecks
         office-noted =
-            let p = passed z sizes in
-            ap (noteCall office h counts lent) entry-is
-            ∙ (rw (entry-vector f drawn (p .file), entry-path f drawn (p .file) (p .tree)) (sym (call-rest f drawn d asked _ _ _ lent _ z (sym fit-is ∙ fit))))
+            let (k-low, _, w-low, _) = sizes-are z sizes in
+            let long = part-length f drawn d asked z sizes read in
+            let wide = path-long z sizes in
+            let (_, _, _, good) = fit-says (s .k) (length drawn) office h counts lent (T-true (tablesFit (s .k) (length drawn) office h counts lent) .1 fit) in
+            half-noted h counts lent (take (s .k) v) (rowsIn (d .path)) (omega (arith, long)) (omega (arith, wide)) (rw (← long, wide) good) office
+            ∙ ap₂ (λ (k w : ℕ). rest k w entry) (sym long ∙ ap (λ (s : Sizes). s .k) sizes) (passed z sizes .long) ∙ ap (rest (sizesOf f .k) (width (graphIn f))) entry-is
+            ∙ sym (call-rest f drawn d asked _ _ _ lent _ z (sym fit-is ∙ fit))

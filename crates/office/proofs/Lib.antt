@@ -1,2 +1,2 @@
-pub mod Laws
 pub mod Halves
+pub mod Laws

@@ -1,12 +1,11 @@
--- What each case of the code's answer says in document 02's terms; what an entry comes to once check 11 is met, and by how a table took it.
+-- What each case of the code's answer says in document 02's terms; and what entering in a half of both tables comes to.
 use mathlib.Core.Bool.{false, true}
-use mathlib.Core.List.{[], _∷_}
-use Prim.Native.Nat.{ℕ}
+use Prim.Native.Nat.{_/_, ℕ}
 use lib.ListN.{length}
-use Rattle.checks.specs.Checks.{Ended, Outcome, answered, ended, refused}
-use Rattle.table.specs.Enter.{Entering, Row, entered, full, met, unfit}
-use Rattle.operations.specs.Operations.{FrontTables, check}
-use Rattle.offices.specs.Offices.{Counts, Noted, fitsIn, halfOf, noteOf, rowsAfter, rowsIn, written}
+use Rattle.checks.specs.Checks.{Ended, Outcome, answered, refused}
+use Rattle.table.specs.Enter.{Entering, Row, enterCall, entered, full, met, unfit}
+use Rattle.operations.specs.Operations.{FrontTables}
+use Rattle.offices.specs.Offices.{Counts, Noted, countOf, halfOf, partOf, withPart}
 use Rattle.office.specs.declared.OfficeAnswer.{OfficeAnswer}
 use Rattle.office.specs.declared.OfficeAnswer.the-variants as answer
 
@@ -21,9 +20,14 @@ noteBy met count = answered (record { entered = false; count = count })
 noteBy full count = refused 24
 noteBy (entered filled) count = answered (record { entered = true; count = filled })
 
-unfoldable pub noteCall : ℕ → ℕ → Counts → FrontTables → Row → Ended Noted FrontTables
-noteCall office h counts lent e =
-    let k = length (e .vector) in
-    let w = length (e .path) in
-    let rows = rowsIn k w h (halfOf office) counts lent in
-    ended (check 24 (fitsIn h rows e) ∷ []) (noteOf rows e) lent (written k w h (halfOf office) (rowsAfter rows e) lent)
+-- entering in the office's half: the places of both tables before their middle, or from there on
+unfoldable pub noteCall : ℕ → Counts → FrontTables → Row → Ended Noted FrontTables
+noteCall office counts lent e =
+    let half = halfOf office in
+    let a = length (lent .costs) / 2 in
+    let b = length (lent .witnesses) / 2 in
+    let end = enterCall (partOf half a (lent .costs)) (partOf half b (lent .witnesses)) (countOf half counts) (e .vector) (e .path) in
+    record {
+      outcome = noteBy (end .answer) (countOf half counts);
+      buffers = record { costs = withPart half a (end .costs) (lent .costs); witnesses = withPart half b (end .witnesses) (lent .witnesses) };
+    }

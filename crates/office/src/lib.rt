@@ -1,8 +1,7 @@
 //! A second office in the same table: a drawn spanning tree entered in an office's half of one front table.
 ghost use mathlib.Core.Path.{_≡_};
 ghost use Prim.Native.Nat.{_*_, _<_, _≤_};
-ghost use lib.Dec.{T, eqb};
-ghost use lib.ListN.{length};
+ghost use lib.Dec.{eqb};
 ghost use Rattle.table.specs.Answers.{enteringOf};
 ghost use Rattle.offices.specs.Offices.{officeCall, tablesFit};
 ghost use Rattle.paths.specs.Path.{rowsIn};
@@ -78,10 +77,9 @@ fn noted(entered: Entered, count: usize) -> OfficeAnswer
     }
 }
 
-// Enters a vector with its tree in the office's half, once check 11 is met.
+// Enters a vector with a path in the office's half of both tables.
 fn note(
     office: u32,
-    h: usize,
     costs: &mut [u32],
     witnesses: &mut [u16],
     first: usize,
@@ -89,8 +87,7 @@ fn note(
     vector: &[u32],
     path: Path,
 ) -> OfficeAnswer
-    requires { ⌜ (0 < length (now vector)) × (0 < length (rowsIn path)) × T (tablesFit (length (now vector)) (length (rowsIn path)) office h (record { first = first; second = second }) (record { costs = now costs; witnesses = now witnesses })) ⌝ }
-    ensures { λ r. ⌜ record { outcome = notedOf r; buffers = record { costs = now (costs .exit); witnesses = now (witnesses .exit) } } ≡ noteCall office h (record { first = first; second = second }) (record { costs = now (costs .entry); witnesses = now (witnesses .entry) }) (record { vector = now (vector .entry); path = rowsIn path }) ⌝ }
+    ensures { λ r. ⌜ record { outcome = notedOf r; buffers = record { costs = now (costs .exit); witnesses = now (witnesses .exit) } } ≡ noteCall office (record { first = first; second = second }) (record { costs = now (costs .entry); witnesses = now (witnesses .entry) }) (record { vector = now (vector .entry); path = rowsIn path }) ⌝ }
 {
     let rows = path.rows;
     let w = path.length();
@@ -134,7 +131,6 @@ pub fn office(
     let vector = vector::vector(file, drawn.path);
     note(
         office,
-        h,
         costs,
         witnesses,
         first,

@@ -25,17 +25,17 @@ use Rattle.network_file.specs.File.{fileChecks, networkOf, sizesOf}
 use Rattle.network_file.proofs.Accepted.{Accepted, accepted}
 use Rattle.operations.specs.Operations.{FrontTables, check, drawnChecks, graphIn, treeChecks}
 use Rattle.operations.proofs.Files.{formed}
-use Rattle.offices.specs.Offices.{Counts, Half, Noted, countOf, entryOf, firstHalf, fitsIn, halfOf, halfRows, noteOf, officeCall, officeChecks, partOf, rowsAfter, rowsIn, secondHalf, tablesFit, written}
-use Rattle.offices.specs.Sequences.{countsAfter, numberOf, other, ownCall, ownChecks, withCount}
+use Rattle.offices.specs.Offices.{Counts, Half, Noted, countOf, entryOf, filledIn, firstHalf, fitsIn, halfOf, halfRows, noteOf, officeCall, officeChecks, partOf, rowsAfter, secondHalf, tablesFit, written}
+use Rattle.offices.specs.Sequences.{countsAfter, officeOf, other, ownCall, ownChecks, withCount}
 use Rattle.offices.proofs.Parts.{after-costs, after-rows, after-witnesses, count-other, count-same, part-long, part-other, part-same, with-long}
 
 none-or-some : (o : Option ℕ) → (o ≡ none) ⊎ ((e : ℕ) × (o ≡ some e))
 none-or-some none = inl refl
 none-or-some (some e) = inr (e, refl)
 
-pub half-number : (x : Half) → halfOf (numberOf x) ≡ x
-half-number firstHalf = refl
-half-number secondHalf = refl
+pub half-office : (x : Half) → halfOf (officeOf x) ≡ x
+half-office firstHalf = refl
+half-office secondHalf = refl
 
 -- What check 11 asks of the tables and the counts
 pub record Good (k w h : ℕ) (counts : Counts) (lent : FrontTables) : Type 0 where
@@ -98,15 +98,15 @@ module _ (k w h office : ℕ) (counts : Counts) (lent : FrontTables) where
 -- What a call with tables of k costs and w row numbers does to the half x and to the other; `mine` is what the office by itself comes to
 pub record Stepped (k w h : ℕ) (x : Half) (counts : Counts) (lent : FrontTables) (call : Ended Noted FrontTables) (mine : Ended Noted (List Row)) : Type 0 where
   pub outcome : call .outcome ≡ mine .outcome
-  pub rows : rowsIn k w h x (countsAfter x (call .outcome) counts) (call .buffers) ≡ mine .buffers
-  pub other-rows : rowsIn k w h (other x) (countsAfter x (call .outcome) counts) (call .buffers) ≡ rowsIn k w h (other x) counts lent
+  pub rows : filledIn k w h x (countsAfter x (call .outcome) counts) (call .buffers) ≡ mine .buffers
+  pub other-rows : filledIn k w h (other x) (countsAfter x (call .outcome) counts) (call .buffers) ≡ filledIn k w h (other x) counts lent
   pub other-costs : partOf (other x) (h * k) (call .buffers .costs) ≡ partOf (other x) (h * k) (lent .costs)
   pub other-witnesses : partOf (other x) (h * w) (call .buffers .witnesses) ≡ partOf (other x) (h * w) (lent .witnesses)
   pub good : Good k w h (countsAfter x (call .outcome) counts) (call .buffers)
 
 module _ (k w h : ℕ) (x : Half) (counts : Counts) (lent : FrontTables) (g : Good k w h counts lent) where
   abbrev rows : List Row
-  rows = rowsIn k w h x counts lent
+  rows = filledIn k w h x counts lent
 
   stepped-refused : (e : ℕ) → Stepped k w h x counts lent (record { outcome = refused e; buffers = lent }) (record { outcome = refused e; buffers = rows })
   stepped-refused e = record { outcome = refl; rows = refl; other-rows = refl; other-costs = refl; other-witnesses = refl; good = g }
@@ -157,11 +157,11 @@ module _ (k w h : ℕ) (x : Half) (counts : Counts) (lent : FrontTables) (g : Go
 
 -- The entry of a drawn tree of an accepted file
 
-pub entry-vector : (f drawn : List ℕ) → Accepted f → length (entryOf (networkOf f) drawn .vector) ≡ sizesOf f .k
+entry-vector : (f drawn : List ℕ) → Accepted f → length (entryOf (networkOf f) drawn .vector) ≡ sizesOf f .k
 unfolding entryOf
 entry-vector f drawn a = vectors-sized (networkOf f) (drawn ∷ []) (costOf (networkOf f) drawn) (here refl) ∙ a .kinds
 
-pub entry-path : (f drawn : List ℕ) → Accepted f → T (isTree (graphIn f) drawn) → length (entryOf (networkOf f) drawn .path) ≡ width (graphIn f)
+entry-path : (f drawn : List ℕ) → Accepted f → T (isTree (graphIn f) drawn) → length (entryOf (networkOf f) drawn .path) ≡ width (graphIn f)
 unfolding entryOf
 entry-path f drawn a t =
     let (ps, e, m, _, _) = pathOf-tree (graphIn f) (formed f a) drawn t in
@@ -173,7 +173,7 @@ unfolding drawnChecks treeChecks
 drawn-tree f drawn q =
     T-true (isTree (graphIn f) drawn) .1 (met-all (drawnChecks (networkOf f) drawn) .0 q (check 10 (isTree (graphIn f) drawn)) (there (there (here refl))))
 
-named : (x : Half) → T (either (eqb (numberOf x) 1) (eqb (numberOf x) 2))
+named : (x : Half) → T (either (eqb (officeOf x) 1) (eqb (officeOf x) 2))
 named firstHalf = tt
 named secondHalf = tt
 
@@ -187,29 +187,29 @@ module _ (f : List ℕ) (ok : firstUnmet (fileChecks f) ≡ none) (h : ℕ) (pos
   w = width (graphIn f)
 
   -- the file's checks and 11 are met; the office goes by its half
-  same-checks : (x : Half) → firstUnmet (officeChecks f drawn (numberOf x) h counts lent) ≡ firstUnmet (ownChecks (networkOf f) h (halfRows f h x counts lent) drawn)
+  same-checks : (x : Half) → firstUnmet (officeChecks f drawn (officeOf x) h counts lent) ≡ firstUnmet (ownChecks (networkOf f) h (halfRows f h x counts lent) drawn)
   unfolding officeChecks ownChecks
   same-checks x =
-      firstUnmet-skip (fileChecks f ++ drawnChecks (networkOf f) drawn) (last (halfOf (numberOf x)))
-      (check 11 (tablesFit k w (numberOf x) h counts lent)) (T-true (tablesFit k w (numberOf x) h counts lent) .0 (fits-in k w h (numberOf x) counts lent (named x) pos g))
-      ∙ ap (λ (y : Half). firstUnmet (fileChecks f ++ drawnChecks (networkOf f) drawn ++ last y)) (half-number x)
+      firstUnmet-skip (fileChecks f ++ drawnChecks (networkOf f) drawn) (last (halfOf (officeOf x)))
+      (check 11 (tablesFit k w (officeOf x) h counts lent)) (T-true (tablesFit k w (officeOf x) h counts lent) .0 (fits-in k w h (officeOf x) counts lent (named x) pos g))
+      ∙ ap (λ (y : Half). firstUnmet (fileChecks f ++ drawnChecks (networkOf f) drawn ++ last y)) (half-office x)
       ∙ ap firstUnmet (append-assoc (fileChecks f) (drawnChecks (networkOf f) drawn) (last x)) ∙ firstUnmet-append (fileChecks f) (drawnChecks (networkOf f) drawn ++ last x) ok
     where
       last : Half → List Check
       last y = check 24 (fitsIn h (halfRows f h y counts lent) (entryOf (networkOf f) drawn)) ∷ []
 
-  pub step : (x : Half) → Stepped k w h x counts lent (officeCall f drawn (numberOf x) h counts lent) (ownCall (networkOf f) h (halfRows f h x counts lent) drawn)
+  pub step : (x : Half) → Stepped k w h x counts lent (officeCall f drawn (officeOf x) h counts lent) (ownCall (networkOf f) h (halfRows f h x counts lent) drawn)
   unfolding officeCall ownCall ownChecks
   step x = elim (none-or-some (firstUnmet (ownChecks (networkOf f) h rows₀ drawn))) [
-    | inr (e, q) ↦ subst (λ (c : Ended Noted FrontTables). Stepped k w h x counts lent c mine) (sym (ended-unmet (officeChecks f drawn (numberOf x) h counts lent) _ lent _ e (same-checks x ∙ q)))
+    | inr (e, q) ↦ subst (λ (c : Ended Noted FrontTables). Stepped k w h x counts lent c mine) (sym (ended-unmet (officeChecks f drawn (officeOf x) h counts lent) _ lent _ e (same-checks x ∙ q)))
         (subst (Stepped k w h x counts lent (record { outcome = refused e; buffers = lent })) (sym (ended-unmet (ownChecks (networkOf f) h rows₀ drawn) _ rows₀ _ e q)) (stepped-refused k w h x counts lent g e))
     | inl q ↦
         let (of-drawn, last) = unmet-parts (drawnChecks (networkOf f) drawn) (check 24 (fitsIn h rows₀ entry) ∷ []) q in
         let file = accepted f ok in
         let fits = T-true (fitsIn h rows₀ entry) .1 (met-all (check 24 (fitsIn h rows₀ entry) ∷ []) .0 last (check 24 (fitsIn h rows₀ entry)) (here refl)) in
-        subst (λ (c : Ended Noted FrontTables). Stepped k w h x counts lent c mine) (sym (ended-met (officeChecks f drawn (numberOf x) h counts lent) _ lent _ (same-checks x ∙ q)))
-        (subst (Stepped k w h x counts lent (answerAt (halfOf (numberOf x)))) (sym (ended-met (ownChecks (networkOf f) h rows₀ drawn) _ rows₀ _ q))
-        (subst (λ (y : Half). Stepped k w h x counts lent (answerAt y) (record { outcome = answered (noteOf rows₀ entry); buffers = rowsAfter rows₀ entry })) (sym (half-number x))
+        subst (λ (c : Ended Noted FrontTables). Stepped k w h x counts lent c mine) (sym (ended-met (officeChecks f drawn (officeOf x) h counts lent) _ lent _ (same-checks x ∙ q)))
+        (subst (Stepped k w h x counts lent (answerAt (halfOf (officeOf x)))) (sym (ended-met (ownChecks (networkOf f) h rows₀ drawn) _ rows₀ _ q))
+        (subst (λ (y : Half). Stepped k w h x counts lent (answerAt y) (record { outcome = answered (noteOf rows₀ entry); buffers = rowsAfter rows₀ entry })) (sym (half-office x))
         (stepped-answered k w h x counts lent g entry (entry-vector f drawn file) (entry-path f drawn file (drawn-tree f drawn of-drawn)) fits)))
   ]
     where
@@ -253,16 +253,16 @@ stranger f h drawn office counts lent n1 n2 = elim (none-or-some (firstUnmet (of
 
 -- THE OTHER'S ROWS keep their content on each call, whatever tables and counts it is handed
 pub other-kept : (f : List ℕ) (h : ℕ) (drawn : List ℕ) (counts : Counts) (lent : FrontTables) (x : Half)
-    → (partOf (other x) (h * sizesOf f .k) (officeCall f drawn (numberOf x) h counts lent .buffers .costs) ≡ partOf (other x) (h * sizesOf f .k) (lent .costs))
-    × (partOf (other x) (h * width (graphIn f)) (officeCall f drawn (numberOf x) h counts lent .buffers .witnesses) ≡ partOf (other x) (h * width (graphIn f)) (lent .witnesses))
+    → (partOf (other x) (h * sizesOf f .k) (officeCall f drawn (officeOf x) h counts lent .buffers .costs) ≡ partOf (other x) (h * sizesOf f .k) (lent .costs))
+    × (partOf (other x) (h * width (graphIn f)) (officeCall f drawn (officeOf x) h counts lent .buffers .witnesses) ≡ partOf (other x) (h * width (graphIn f)) (lent .witnesses))
 unfolding officeCall
-other-kept f h drawn counts lent x = elim (none-or-some (firstUnmet (officeChecks f drawn (numberOf x) h counts lent))) [
+other-kept f h drawn counts lent x = elim (none-or-some (firstUnmet (officeChecks f drawn (officeOf x) h counts lent))) [
   | inr (e, q) ↦
-      let kept = ended-unmet (officeChecks f drawn (numberOf x) h counts lent) _ lent _ e q in (
+      let kept = ended-unmet (officeChecks f drawn (officeOf x) h counts lent) _ lent _ e q in (
         ap (λ (c : Ended Noted FrontTables). partOf (other x) (h * sizesOf f .k) (c .buffers .costs)) kept,
         ap (λ (c : Ended Noted FrontTables). partOf (other x) (h * width (graphIn f)) (c .buffers .witnesses)) kept,
       )
   | inl q ↦
-      let (_, pos, good) = fits-out _ _ h (numberOf x) counts lent (fit-met f h drawn (numberOf x) counts lent q) in
-      let s = step f (file-met f h drawn (numberOf x) counts lent q) h pos drawn counts lent good x in (s .other-costs, s .other-witnesses)
+      let (_, pos, good) = fits-out _ _ h (officeOf x) counts lent (fit-met f h drawn (officeOf x) counts lent q) in
+      let s = step f (file-met f h drawn (officeOf x) counts lent q) h pos drawn counts lent good x in (s .other-costs, s .other-witnesses)
 ]

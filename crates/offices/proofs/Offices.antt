@@ -27,8 +27,8 @@ use Rattle.table.proofs.Filled.{vectorOf}
 use Rattle.network_file.specs.File.{fileChecks, networkOf, sizesOf}
 use Rattle.operations.specs.Operations.{FrontTables, graphIn}
 use Rattle.offices.specs.Offices.{Counts, Half, Noted, entryOf, firstHalf, halfOf, halfRows, noteOf, officeCall, rowsAfter, secondHalf}
-use Rattle.offices.specs.Sequences.{Call, Entry, Holds, OfficeClaim, acceptedOf, countsAfter, drawnBy, numberOf, other, outcomesOf, own, ownCall, ownChecks, ownFrom, ran, ranFrom}
-use Rattle.offices.proofs.Calls.{Good, Stepped, half-number, step, stranger}
+use Rattle.offices.specs.Sequences.{Entry, Holds, OfficeClaim, Reply, acceptedOf, countsAfter, drawnBy, officeOf, other, outcomesOf, own, ownCall, ownChecks, ownFrom, ran, ranFrom}
+use Rattle.offices.proofs.Calls.{Good, Stepped, half-office, step, stranger}
 
 -- An office's part of a sequence
 
@@ -48,13 +48,13 @@ other-other : (x : Half) → other (other x) ≡ x
 other-other firstHalf = refl
 other-other secondHalf = refl
 
-neither : (x : Half) (office : ℕ) → ¬ (office ≡ numberOf x) → ¬ (office ≡ numberOf (other x)) → (¬ (office ≡ 1)) × (¬ (office ≡ 2))
+neither : (x : Half) (office : ℕ) → ¬ (office ≡ officeOf x) → ¬ (office ≡ officeOf (other x)) → (¬ (office ≡ 1)) × (¬ (office ≡ 2))
 neither firstHalf office a b = (a, b)
 neither secondHalf office a b = (b, a)
 
 module _ (f : List ℕ) (ok : firstUnmet (fileChecks f) ≡ none) (h : ℕ) (pos : 0 < h) (x : Half) where
   abbrev n : ℕ
-  n = numberOf x
+  n = officeOf x
 
   abbrev w : Network
   w = networkOf f
@@ -64,7 +64,7 @@ module _ (f : List ℕ) (ok : firstUnmet (fileChecks f) ≡ none) (h : ℕ) (pos
 
   -- what the calls of the sequence came to for the office, and its filled rows at the end, by its own entries
   record Apart (counts : Counts) (lent : FrontTables) (es : List Entry) : Type 0 where
-    outcomes : outcomesOf n (ranFrom f h counts lent es .calls) ≡ ownFrom w h (halfRows f h x counts lent) (drawnBy n es) .outcomes
+    outcomes : outcomesOf n (ranFrom f h counts lent es .replies) ≡ ownFrom w h (halfRows f h x counts lent) (drawnBy n es) .outcomes
     rows : halfRows f h x (ranFrom f h counts lent es .counts) (ranFrom f h counts lent es .lent) ≡ ownFrom w h (halfRows f h x counts lent) (drawnBy n es) .rows
 
   -- one call
@@ -75,17 +75,17 @@ module _ (f : List ℕ) (ok : firstUnmet (fileChecks f) ≡ none) (h : ℕ) (pos
     abbrev next : Counts
     next = countsAfter (halfOf (e .office)) (call .outcome) counts
 
-    abbrev called : Call
+    abbrev called : Reply
     called = record { office = e .office; outcome = call .outcome }
 
-    abbrev later : List Call
-    later = ranFrom f h next (call .buffers) es .calls
+    abbrev later : List Reply
+    later = ranFrom f h next (call .buffers) es .replies
 
     -- of the office with half y
-    stepped : Sound counts lent → (y : Half) → e .office ≡ numberOf y
+    stepped : Sound counts lent → (y : Half) → e .office ≡ officeOf y
         → (next ≡ countsAfter y (call .outcome) counts) × Stepped (sizesOf f .k) (width (graphIn f)) h y counts lent call (ownCall w h (halfRows f h y counts lent) (e .drawn))
     stepped g y q = (
-      ap (λ (y : Half). countsAfter y (call .outcome) counts) (ap halfOf q ∙ half-number y),
+      ap (λ (y : Half). countsAfter y (call .outcome) counts) (ap halfOf q ∙ half-office y),
       subst (λ (o : ℕ). Stepped (sizesOf f .k) (width (graphIn f)) h y counts lent (officeCall f (e .drawn) o h counts lent) (ownCall w h (halfRows f h y counts lent) (e .drawn)))
           (sym q) (step f ok h pos (e .drawn) counts lent g y),
     )
@@ -120,7 +120,7 @@ module _ (f : List ℕ) (ok : firstUnmet (fileChecks f) ≡ none) (h : ℕ) (pos
     | yes q ↦
         let (counted, s) = stepped counts lent e es g x q in
         mine counts lent e es q (rw counted (s .rows)) (s .outcome) (apart es _ _ (rw counted (s .good)))
-    | no a ↦ elim (ℕ-discrete (e .office) (numberOf (other x))) [
+    | no a ↦ elim (ℕ-discrete (e .office) (officeOf (other x))) [
       | yes q ↦
           let (counted, s) = stepped counts lent e es g (other x) q in
           left counts lent e es a (rw counted (rw (other-other x) at (s .other-rows))) (apart es _ _ (rw counted (s .good)))
@@ -177,13 +177,13 @@ nothing f h lent secondHalf = refl
 pub offices : (f : List ℕ) → firstUnmet (fileChecks f) ≡ none → (h : ℕ) (lent : FrontTables) → 0 < h → length (lent .costs) ≡ 2 * (h * sizesOf f .k)
     → length (lent .witnesses) ≡ 2 * (h * width (graphIn f)) → (es : List Entry) (x : Half) → OfficeClaim f h lent es x
 unfolding empty
-offices f ok h lent pos costs witnesses es x = record { answers = answers; rows = rows; holds = rw (answers, rows) (own-holds (networkOf f) h (drawnBy (numberOf x) es)) }
+offices f ok h lent pos costs witnesses es x = record { answers = answers; rows = rows; holds = rw (answers, rows) (own-holds (networkOf f) h (drawnBy (officeOf x) es)) }
   where
     a : Apart f ok h pos x empty lent es
     a = apart f ok h pos x es empty lent (record { first = omega arith; second = omega arith; costs = costs; witnesses = witnesses })
 
-    answers : outcomesOf (numberOf x) (ran f h lent es .calls) ≡ own (networkOf f) h (drawnBy (numberOf x) es) .outcomes
-    answers = a .outcomes ∙ ap (λ (r : List Row). ownFrom (networkOf f) h r (drawnBy (numberOf x) es) .outcomes) (nothing f h lent x)
+    answers : outcomesOf (officeOf x) (ran f h lent es .replies) ≡ own (networkOf f) h (drawnBy (officeOf x) es) .outcomes
+    answers = a .outcomes ∙ ap (λ (r : List Row). ownFrom (networkOf f) h r (drawnBy (officeOf x) es) .outcomes) (nothing f h lent x)
 
-    rows : halfRows f h x (ran f h lent es .counts) (ran f h lent es .lent) ≡ own (networkOf f) h (drawnBy (numberOf x) es) .rows
-    rows = a .rows ∙ ap (λ (r : List Row). ownFrom (networkOf f) h r (drawnBy (numberOf x) es) .rows) (nothing f h lent x)
+    rows : halfRows f h x (ran f h lent es .counts) (ran f h lent es .lent) ≡ own (networkOf f) h (drawnBy (officeOf x) es) .rows
+    rows = a .rows ∙ ap (λ (r : List Row). ownFrom (networkOf f) h r (drawnBy (officeOf x) es) .rows) (nothing f h lent x)

@@ -43,8 +43,8 @@ withPart firstHalf size part table = part ++ drop size table
 withPart secondHalf size part table = take size table ++ part
 
 -- the filled rows of a half, of k costs and w row numbers each
-abbrev pub rowsIn : ℕ → ℕ → ℕ → Half → Counts → FrontTables → List Row
-rowsIn k w h half counts lent = filled k w (countOf half counts) (partOf half (h * k) (lent .costs)) (partOf half (h * w) (lent .witnesses))
+abbrev pub filledIn : ℕ → ℕ → ℕ → Half → Counts → FrontTables → List Row
+filledIn k w h half counts lent = filled k w (countOf half counts) (partOf half (h * k) (lent .costs)) (partOf half (h * w) (lent .witnesses))
 
 -- the tables with these rows in the first places of the half; rows past them keep their content
 abbrev pub written : ℕ → ℕ → ℕ → Half → List Row → FrontTables → FrontTables
@@ -84,7 +84,7 @@ abbrev pub fitsIn : ℕ → List Row → Row → Bool
 fitsIn h rows e = leb (length (rowsAfter rows e)) h
 
 abbrev pub halfRows : List ℕ → ℕ → Half → Counts → FrontTables → List Row
-halfRows f h half counts lent = rowsIn (sizesOf f .k) (width (graphIn f)) h half counts lent
+halfRows f h half counts lent = filledIn (sizesOf f .k) (width (graphIn f)) h half counts lent
 
 unfoldable pub officeChecks : List ℕ → List ℕ → ℕ → ℕ → Counts → FrontTables → List Check
 officeChecks f drawn office h counts lent =

@@ -20,12 +20,12 @@ pub record Entry : Type 0 where
   pub drawn : List ℕ
 
 -- what a call came to
-pub record Call : Type 0 where
+pub record Reply : Type 0 where
   pub office : ℕ
   pub outcome : Outcome Noted
 
 pub record Ran : Type 0 where
-  pub calls : List Call
+  pub replies : List Reply
   pub counts : Counts
   pub lent : FrontTables
 
@@ -39,11 +39,11 @@ countsAfter half (refused e) counts = counts
 countsAfter half (answered a) counts = withCount half (a .count) counts
 
 unfoldable pub ranFrom : List ℕ → ℕ → Counts → FrontTables → List Entry → Ran
-ranFrom f h counts lent [] = record { calls = []; counts = counts; lent = lent }
+ranFrom f h counts lent [] = record { replies = []; counts = counts; lent = lent }
 ranFrom f h counts lent (e ∷ es) =
     let c = officeCall f (e .drawn) (e .office) h counts lent in
     let later = ranFrom f h (countsAfter (halfOf (e .office)) (c .outcome) counts) (c .buffers) es in
-    record { calls = record { office = e .office; outcome = c .outcome } ∷ later .calls; counts = later .counts; lent = later .lent }
+    record { replies = record { office = e .office; outcome = c .outcome } ∷ later .replies; counts = later .counts; lent = later .lent }
 
 -- from an empty table
 abbrev pub ran : List ℕ → ℕ → FrontTables → List Entry → Ran
@@ -53,7 +53,7 @@ ran f h lent es = ranFrom f h (record { first = 0; second = 0 }) lent es
 abbrev pub drawnBy : ℕ → List Entry → List (List ℕ)
 drawnBy office es = map (λ e. e .drawn) (filterB (λ e. eqb (e .office) office) es)
 
-abbrev pub outcomesOf : ℕ → List Call → List (Outcome Noted)
+abbrev pub outcomesOf : ℕ → List Reply → List (Outcome Noted)
 outcomesOf office cs = map (λ c. c .outcome) (filterB (λ c. eqb (c .office) office) cs)
 
 -- An office by itself: its filled rows, entry after entry. No file, no table and no other office is asked.
@@ -87,9 +87,9 @@ acceptedOf w (drawn ∷ ds) (answered a ∷ os) = entryOf w drawn ∷ acceptedOf
 
 -- What is shown
 
-abbrev pub numberOf : Half → ℕ
-numberOf firstHalf = 1
-numberOf secondHalf = 2
+abbrev pub officeOf : Half → ℕ
+officeOf firstHalf = 1
+officeOf secondHalf = 2
 
 abbrev pub other : Half → Half
 other firstHalf = secondHalf
@@ -103,8 +103,8 @@ pub record Holds (entries rows : List Row) : Type 0 where
 -- of one of the two offices, over a sequence of entries from an empty table
 pub record OfficeClaim (f : List ℕ) (h : ℕ) (lent : FrontTables) (es : List Entry) (x : Half) : Type 0 where
   -- its answers and its filled rows are those of its own entries alone
-  pub answers : outcomesOf (numberOf x) (ran f h lent es .calls) ≡ own (networkOf f) h (drawnBy (numberOf x) es) .outcomes
-  pub rows : halfRows f h x (ran f h lent es .counts) (ran f h lent es .lent) ≡ own (networkOf f) h (drawnBy (numberOf x) es) .rows
+  pub answers : outcomesOf (officeOf x) (ran f h lent es .replies) ≡ own (networkOf f) h (drawnBy (officeOf x) es) .outcomes
+  pub rows : halfRows f h x (ran f h lent es .counts) (ran f h lent es .lent) ≡ own (networkOf f) h (drawnBy (officeOf x) es) .rows
   -- and the rows hold the undominated vectors of its accepted entries
-  pub holds : Holds (acceptedOf (networkOf f) (drawnBy (numberOf x) es) (outcomesOf (numberOf x) (ran f h lent es .calls)))
+  pub holds : Holds (acceptedOf (networkOf f) (drawnBy (officeOf x) es) (outcomesOf (officeOf x) (ran f h lent es .replies)))
       (halfRows f h x (ran f h lent es .counts) (ran f h lent es .lent))

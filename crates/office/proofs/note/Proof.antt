@@ -1,11 +1,10 @@
--- The half of the office is lent, up to its end or from there on; entering in it is the rest of the call.
+-- The office's half is lent: both tables up to their middle, or from there on.
 use mathlib.Core.Path.{_≡_}
 use native.Mathlib.Omega.{arith}
 use lib.ListN.{length, length-map, length-take, take}
 use Rattle.paths.specs.Path.{rowsIn}
 use Rattle.paths.proofs.Laws.{path-rows}
 use Rattle.office.proofs.Halves.{first-noted, second-noted}
-use Rattle.office.proofs.Laws.{fit-says}
 use borrow.Author.Needs.{needs}
 use Rattle.office.proofs.note.Statement.{statement}
 use Rattle.office.proofs.note.Tie as tie
@@ -15,7 +14,7 @@ length-requires c κs = search needs
 
 -- the array of the path's rows has 31 places
 thirty-one : (c : tie.Start) → length (c .args .path .rows) ≡ 31
-thirty-one c = simp length-map at (c .good .1 .1 .1 .1 .1 .1 .1 .0 .1 .1 .0 .1 .0 .1)
+thirty-one c = simp length-map at (c .good .1 .1 .1 .1 .1 .1 .0 .1 .1 .0 .1 .0 .1)
 
 array-share-prefix-rows : tie.Need-array-share-prefix-rows
 array-share-prefix-rows c = omega (arith, thirty-one (c .before .before .before .before .before), c .length .ensures)
@@ -27,8 +26,8 @@ slice-aggregate-tree c = simp length-take (omega (arith, thirty-one (c .before .
 tree-is : (c : tie.After-rows2) → take (c .before .length .result) (c .before .before .before .before .before .before .args .path .rows) ≡ rowsIn (c .before .before .before .before .before .before .args .path)
 tree-is c =
     let start = c .before .before .before .before .before .before in
-    let nodes = simp length-map at (start .good .1 .1 .1 .1 .1 .1 .1 .0 .1 .1 .1 .0 .1 .0 .1) in
-    let pivots = simp length-map at (start .good .1 .1 .1 .1 .1 .1 .1 .0 .1 .1 .1 .1 .0 .1 .0 .1) in
+    let nodes = simp length-map at (start .good .1 .1 .1 .1 .1 .1 .0 .1 .1 .1 .0 .1 .0 .1) in
+    let pivots = simp length-map at (start .good .1 .1 .1 .1 .1 .1 .0 .1 .1 .1 .1 .0 .1 .0 .1) in
     path-rows (start .args .path) _ (c .before .length .ensures) nodes (thirty-one start) pivots
 
 slice-relend-prefix-enter : tie.Need-slice-relend-prefix-enter
@@ -59,9 +58,7 @@ returns : tie.Need-returns
 returns c =
     let at = c .before .before .before .before .before in
     let rows = at .before .before .before .before in
-    let start = rows .before .before .before .before .before .before in
-    let (_, _, _, g) = fit-says _ _ _ _ _ _ (start .pre .2) in
-    first-noted _ _ _ _ _ _ (start .pre .0) (start .pre .1) g _ _ (tree-is rows) (at .before .before .before .if1 .taken) (at .enter .ensures) (c .noted .ensures)
+    first-noted _ _ _ _ _ _ _ (tree-is rows) (at .before .before .before .if1 .taken) (at .enter .ensures) (c .noted .ensures)
 
 mul-enter : tie.Need-mul-enter
 mul-enter c = search needs
@@ -103,9 +100,7 @@ returns-2 : tie.Need-returns-2
 returns-2 c =
     let at = c .before .before .before .before .before in
     let rows = at .before .before .before .before in
-    let start = rows .before .before .before .before .before .before in
-    let (_, _, _, g) = fit-says _ _ _ _ _ _ (start .pre .2) in
-    second-noted _ _ _ _ _ _ (start .pre .0) (start .pre .1) g _ _ (tree-is rows) (at .before .before .before .if1 .left) (at .enter2 .ensures) (c .noted2 .ensures)
+    second-noted _ _ _ _ _ _ _ (tree-is rows) (at .before .before .before .if1 .left) (at .enter2 .ensures) (c .noted2 .ensures)
 
 pub note-spec : {M : Type 1} → statement M
 note-spec =

@@ -4,7 +4,7 @@ use mathlib.Core.Bool.{true}
 use native.Mathlib.Omega.{arith}
 use lib.ListN.{length, length-take, take}
 use Rattle.cost.proofs.Laws.{part-length}
-use Rattle.office.proofs.Laws.{entry-fits, office-noted, office-refused, office-unfit, sizes-are}
+use Rattle.office.proofs.Laws.{office-noted, office-refused, office-unfit, sizes-are}
 use borrow.Author.Needs.{needs}
 use borrow.Author.Tests.{not-false, not-true}
 use Rattle.office.proofs.office.Statement.{statement}
@@ -61,9 +61,7 @@ fits : (c : tie.After-vector) → c .before .before .fit .result ≡ true
 fits c = not-false _ (c .before .if2 .left)
 
 note-requires : tie.Need-note-requires
-note-requires c κs =
-    let at = c .before .before .before in
-    entry-fits _ _ _ (asked at .before .before .drawn .ensures) _ _ _ _ (asked at .before .if1 .left) (asked at .header-of .ensures) (at .vector .ensures) (sym (at .before .before .fit .ensures) ∙ fits at)
+note-requires c κs = search needs
 
 same-length-3 : tie.Need-same-length-3
 same-length-3 c = search needs
