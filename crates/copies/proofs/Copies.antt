@@ -1,12 +1,12 @@
 -- What the loop copies fits both tables (`room-least`, `copied-is`); where all fits, all is copied (`copied-all`); at the first places stands as much as fits
--- (`copied-first`).
+-- (`copied-first`), or all of it (`copied-whole`).
 use mathlib.Core.Path.{_∙_, _≡_, ap}
 use mathlib.Core.List.{List, _++_}
 use Prim.Native.Nat.{_+_, _-_, _≤_, min, ℕ}
 use native.Mathlib.Nat.{zero-add}
 use native.Mathlib.Omega.{arith}
 use lib.ListN.{drop, length, length-take, take}
-use lib.Seq.{paste}
+use lib.Seq.{paste, take-all}
 use Rattle.lists.proofs.Ascending.{take-min}
 use Rattle.copies.specs.Copies.{copied, room}
 
@@ -37,3 +37,6 @@ unfolding copied room
 copied-first table places =
     let many : min (length places) (min (length places) (length table - 0)) ≡ min (length table) (length places) = omega arith in
     ap (paste table 0 places) many ∙ (rw (zero-add (min (length table) (length places)), take-min (length table) places, length-take (length table) places))
+
+pub copied-whole : (table places : List ℕ) → length places ≤ length table → copied table 0 places (length places) ≡ places ++ drop (length places) table
+copied-whole table places fits = copied-first table places ∙ ap (λ (l : List ℕ). l ++ drop (length l) table) (take-all (length table) places fits)

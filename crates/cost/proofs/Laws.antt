@@ -4,7 +4,6 @@ use mathlib.Core.List.{List, []}
 use Prim.Native.Nat.{_<_, _≤_, ℕ}
 use native.Mathlib.Omega.{arith}
 use lib.ListN.{length, length-take, take}
-use lib.Seq.{take-all}
 use borrow.Author.Tests.{le-leb, lt-leb}
 use Rattle.lists.specs.Lists.{range}
 use Rattle.checks.specs.Checks.{answered, firstUnmet, refused}
@@ -13,7 +12,7 @@ use Rattle.network_file.specs.File.{Sizes, networkOf, sizesOf}
 use Rattle.operations.specs.Operations.{costCall, costChecks, over}
 use Rattle.operations.proofs.Costs.{path-costs}
 use Rattle.copies.specs.Copies.{copied}
-use Rattle.copies.proofs.Copies.{copied-first}
+use Rattle.copies.proofs.Copies.{copied-whole}
 use Rattle.drawn.specs.Answers.{drawnCall}
 use Rattle.drawn.proofs.Answers.{Passed, answered-by, call-met, call-refused, call-short}
 use Rattle.tried.specs.Answers.{drawnOf}
@@ -54,9 +53,7 @@ module _ (f rows : List ℕ) (d : DrawnAnswer) (asked : drawnOf d ≡ drawnCall 
       -- copied to the first places of a buffer that has room
       pub part-copied : (buffer after : List ℕ) → s .k ≤ length buffer → after ≡ copied buffer 0 (take (s .k) v) (length (take (s .k) v))
           → after ≡ over (take (s .k) v) buffer
-      part-copied buffer after room copies =
-          copies ∙ copied-first buffer (take (s .k) v)
-          ∙ ap (λ (l : List ℕ). over l buffer) (take-all (length buffer) (take (s .k) v) (omega (arith, part-length)))
+      part-copied buffer after room copies = copies ∙ copied-whole buffer (take (s .k) v) (omega (arith, part-length))
 
       pub cost-vector : (buffer : List ℕ) → s .k ≤ length buffer → record { outcome = answered tt; buffers = over (take (s .k) v) buffer } ≡ costCall f rows buffer
       unfolding costCall costChecks firstUnmet

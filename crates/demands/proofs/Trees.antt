@@ -15,7 +15,7 @@ use Rattle.lists.specs.Lists.{all, any, member}
 use Rattle.lists.proofs.Members.{_∈_, all-in, member-in}
 use Rattle.lists.proofs.Tests.{T-false, T-true}
 use Rattle.graph.specs.Graph.{Graph, isTree, width}
-use Rattle.graph.specs.Paths.{isMinimal, pathIn, pathOf}
+use Rattle.graph.specs.Paths.{isMinimal, pathIn}
 use Rattle.graph.proofs.PathOf.{pathOf-tree}
 use Rattle.graph.proofs.Tree.{minimal-tree, minimal-unique, tree-out}
 use Rattle.checks.specs.Checks.{Check, Ended, answered, ended, firstUnmet, refused}
@@ -36,6 +36,7 @@ use Rattle.charges.specs.Charges.{Split, addedAt, chargeCall, chargeChecks, cha
 use Rattle.charges.proofs.Charges.{split, total-cost}
 use Rattle.table.specs.Enter.{Row}
 use Rattle.offices.specs.Offices.{Counts, entryOf, fitsIn, halfOf, halfRows, noteOf, officeCall, officeChecks, rowsAfter, tablesFit, written}
+use Rattle.offices.proofs.Calls.{entry-is}
 use Rattle.demands.specs.Demands.{ChargeClaim, Drawn, Exists, NoTree, Passes, PathOfTree, Tree, numbers}
 
 module _ (f : List ℕ) (ok : Passes f) where
@@ -89,11 +90,6 @@ module _ (f : List ℕ) (ok : Passes f) where
         firstUnmet-append (fileChecks f ++ drawnChecks net rows) (c ∷ others) (firstUnmet-append (fileChecks f) (drawnChecks net rows) ok ∙ drawn-met)
         ∙ firstUnmet-met c others room ∙ met
 
-    -- what is entered for the rows
-    entry-is : (rows path : List ℕ) → costOf net rows ≡ costOf net path → pathOf g rows ≡ some path → entryOf net rows ≡ record { vector = costOf net path; path = path }
-    unfolding entryOf
-    entry-is rows path priced found = rw (priced, found)
-
     charged : (criterion : ℕ) (buffer : List ℕ) → T (addedAt net criterion) → chargedNodes f ≤ length buffer → ChargeClaim f rows path criterion buffer
     unfolding chargeCall chargeChecks firstUnmet path-of-tree
     charged criterion buffer t room =
@@ -130,7 +126,7 @@ module _ (f : List ℕ) (ok : Passes f) where
           ∙ ap (λ (v : List ℕ). record { outcome = answered tt; buffers = over v buffer }) (path-of-tree rows (tree .0) .priced);
       charges = charged;
       enters = λ office h counts lent. subst (entering office h counts lent)
-          (entry-is rows path (path-of-tree rows (tree .0) .priced) (pathOf-tree g (formed f a) rows (tree .0) .1)) (entered office h counts lent);
+          (entry-is net rows (path-of-tree rows (tree .0) .priced) (pathOf-tree g (formed f a) rows (tree .0) .1)) (entered office h counts lent);
     }
 
   -- Whether there is a tree

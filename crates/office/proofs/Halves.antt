@@ -63,6 +63,12 @@ module _ (office : ℕ) (counts : Counts) (lent : FrontTables) (v p : List ℕ) 
 
 -- Of tables of exactly 2 × h rows
 
+-- the call behind check 11, of rows so wide
+abbrev pub restOf : ℕ → Half → Counts → FrontTables → ℕ → ℕ → Row → Ended Noted FrontTables
+restOf h x counts lent k w e =
+    let rows = filledIn k w h x counts lent in
+    ended (check 24 (fitsIn h rows e) ∷ []) (noteOf rows e) lent (written k w h x (rowsAfter rows e) lent)
+
 half-is : (t : List ℕ) (size : ℕ) → length t ≡ 2 * size → length t / 2 ≡ size
 half-is t size e = ap (λ (n : ℕ). n / 2) (e ∙ mul-comm 2 size) ∙ mul-div-cancel size {n = 2} (omega arith)
 
@@ -156,8 +162,6 @@ module _ (h : ℕ) (counts : Counts) (lent : FrontTables) (v p : List ℕ) (some
     by-half : callBy (enterCall costs witnesses count v p) ≡ restBy (tables.met vectorOf rows e)
     by-half = ap callBy end-is ∙ by-tests (tables.met vectorOf rows e)
 
-  pub half-noted : (office : ℕ) → noteCall office counts lent e
-      ≡ (let rows = filledIn k w h (halfOf office) counts lent in
-      ended (check 24 (fitsIn h rows e) ∷ []) (noteOf rows e) lent (written k w h (halfOf office) (rowsAfter rows e) lent))
+  pub half-noted : (office : ℕ) → noteCall office counts lent e ≡ restOf h (halfOf office) counts lent k w e
   unfolding noteCall
   half-noted office = rw (half-is (lent .costs) (h * k) (g .costs), half-is (lent .witnesses) (h * w) (g .witnesses)) (by-half (halfOf office))

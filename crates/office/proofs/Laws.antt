@@ -1,9 +1,9 @@
 -- Laws of an entry: a table's rows by division (`rows-exact`, `rows-other`), check 11 by its tests (`unfit`, `fit-last`), and
 -- the call's end by the number of `drawn` and check 11.
-use mathlib.Core.Path.{_∙_, _≡_, ap, ap₂, refl, subst, sym}
+use mathlib.Core.Path.{_∙_, _≡_, ap, ap₂, sym}
 use mathlib.Core.Logic.{⊎-elim}
 use mathlib.Core.Bool.{Bool, false, true}
-use mathlib.Core.List.{List, [], _∷_}
+use mathlib.Core.List.{List}
 use Prim.Native.Nat.{_%_, _*_, _+_, _/_, _<_, _≤_, pred, ℕ}
 use native.Mathlib.Decide.{decLe, ℕ-discrete}
 use native.Mathlib.Nat.{div-add-mod, mul-assoc, mul-comm, mul-div-cancel}
@@ -12,15 +12,15 @@ use lib.Dec.{T, eqb, eqb→eq, leb}
 use lib.ListN.{length, take}
 use borrow.Author.Tests.{eq-eqb, le-leb, lt-leb, ne-eqb}
 use Rattle.lists.specs.Lists.{either}
-use Rattle.lists.proofs.Tests.{T-either, T-true}
-use Rattle.checks.specs.Checks.{Ended, ended, refused}
+use Rattle.lists.proofs.Tests.{T-either, T-false, T-true}
+use Rattle.checks.specs.Checks.{refused}
 use Rattle.graph.specs.Graph.{width}
 use Rattle.table.specs.Enter.{Row}
 use Rattle.network_file.specs.File.{Sizes, networkOf, sizesOf}
-use Rattle.operations.specs.Operations.{FrontTables, check, graphIn}
+use Rattle.operations.specs.Operations.{FrontTables, graphIn}
 use Rattle.operations.proofs.Files.{node-count}
-use Rattle.offices.specs.Offices.{Counts, Noted, entryOf, filledIn, fitsIn, halfOf, noteOf, officeCall, officeChecks, rowsAfter, tablesFit, written}
-use Rattle.offices.proofs.Calls.{Good, fits-in, fits-out}
+use Rattle.offices.specs.Offices.{Counts, halfOf, officeCall, officeChecks, tablesFit}
+use Rattle.offices.proofs.Calls.{Good, entry-is, fits-in, fits-out}
 use Rattle.paths.specs.Path.{rowsIn}
 use Rattle.vector.specs.Vector.{vectorOf}
 use Rattle.drawn.specs.Answers.{drawnCall}
@@ -29,7 +29,7 @@ use Rattle.tried.specs.Answers.{drawnOf}
 use Rattle.tried.specs.declared.DrawnAnswer.{DrawnAnswer}
 use Rattle.cost.proofs.Laws.{part-costs, part-length}
 use Rattle.office.specs.Answers.{noteCall}
-use Rattle.office.proofs.Halves.{half-noted}
+use Rattle.office.proofs.Halves.{half-noted, restOf}
 
 -- Whether a table has exactly 2 × h rows
 
@@ -49,10 +49,6 @@ module _ (places width h : ℕ) where
   rows-other some n = ne-eqb _ _ n ∙ sym (ne-eqb _ _ (λ (q : places ≡ 2 * (h * width)). n
       (ap (λ (p : ℕ). p / (2 * width)) (q ∙ sym turned ∙ mul-comm (2 * width) h) ∙ mul-div-cancel h {n = 2 * width} (omega arith))))
 
--- of numbers that a test told apart
-pub unlike : {a b : ℕ} → eqb a b ≡ false → ¬ (a ≡ b)
-unlike {a} {b} e q = subst T (sym (eq-eqb a b q) ∙ e) tt
-
 -- Check 11
 
 module _ (k w office h : ℕ) (counts : Counts) (lent : FrontTables) where
@@ -67,11 +63,7 @@ module _ (k w office h : ℕ) (counts : Counts) (lent : FrontTables) where
   fit-says t = let (o, pos, g) = fits-out k w h office counts lent t in (office-known o .0, office-known o .1, pos, g)
 
   pub unfit : ¬ T fits → false ≡ fits
-  unfit n = go fits n
-    where
-      go : (b : Bool) → ¬ T b → false ≡ b
-      go false n = refl
-      go true n = absurd (n tt)
+  unfit n = sym (T-false fits .0 n)
 
   -- once all tests before it are met, the second count decides
   pub fit-last : 0 < office → office ≤ 2 → 0 < h → length (lent .costs) ≡ 2 * (h * k) → length (lent .witnesses) ≡ 2 * (h * w) → counts .first ≤ h → leb (counts .second) h ≡ fits
@@ -127,16 +119,6 @@ module _ (f drawn : List ℕ) (d : DrawnAnswer) (asked : drawnOf d ≡ drawnCall
         abbrev entry : Row
         entry = record { vector = take (s .k) v; path = rowsIn (d .path) }
 
-        entry-is : entry ≡ entryOf (networkOf f) drawn
-        unfolding entryOf
-        entry-is = rw (part-costs f drawn d asked z sizes read, passed z sizes .path)
-
-        -- the call behind check 11, of rows so wide
-        abbrev rest : ℕ → ℕ → Row → Ended Noted FrontTables
-        rest k w e =
-            let rows = filledIn k w h (halfOf office) counts lent in
-            ended (check 24 (fitsIn h rows e) ∷ []) (noteOf rows e) lent (written k w h (halfOf office) (rowsAfter rows e) lent)
-
         pub office-noted : noteCall office counts lent entry ≡ officeCall f drawn office h counts lent
         unfolding officeCall officeChecks
         office-noted =
@@ -145,5 +127,6 @@ module _ (f drawn : List ℕ) (d : DrawnAnswer) (asked : drawnOf d ≡ drawnCall
             let wide = path-long z sizes in
             let (_, _, _, good) = fit-says (s .k) (length drawn) office h counts lent (T-true (tablesFit (s .k) (length drawn) office h counts lent) .1 fit) in
             half-noted h counts lent (take (s .k) v) (rowsIn (d .path)) (omega (arith, long)) (omega (arith, wide)) (rw (← long, wide) good) office
-            ∙ ap₂ (λ (k w : ℕ). rest k w entry) (sym long ∙ ap (λ (s : Sizes). s .k) sizes) (passed z sizes .long) ∙ ap (rest (sizesOf f .k) (width (graphIn f))) entry-is
+            ∙ ap₂ (λ (k w : ℕ). restOf h (halfOf office) counts lent k w entry) (sym long ∙ ap (λ (s : Sizes). s .k) sizes) (passed z sizes .long)
+            ∙ ap (restOf h (halfOf office) counts lent (sizesOf f .k) (width (graphIn f))) (sym (entry-is (networkOf f) drawn (sym (part-costs f drawn d asked z sizes read)) (passed z sizes .path)))
             ∙ sym (call-rest f drawn d asked _ _ _ lent _ z (sym fit-is ∙ fit))

@@ -15,10 +15,11 @@ use Rattle.checks.specs.Checks.{Check, Ended, answered, firstUnmet, refused}
 use Rattle.checks.proofs.Checks.{firstUnmet-append, firstUnmet-skip, met-all}
 use Rattle.checks.proofs.Ended.{ended-met, ended-unmet, unmet-parts}
 use Rattle.graph.specs.Graph.{isTree, width}
-use Rattle.graph.specs.Paths.{pathIn}
+use Rattle.graph.specs.Paths.{pathIn, pathOf}
 use Rattle.graph.proofs.Minimal.{minimal-parts}
 use Rattle.graph.proofs.PathOf.{pathOf-tree}
 use Rattle.costs.specs.Costs.{costOf}
+use Rattle.costs.specs.Network.{Network, graphOf}
 use Rattle.costs.proofs.Networks.{vectors-sized}
 use Rattle.table.specs.Enter.{Row, costsOver, witnessesOver}
 use Rattle.network_file.specs.File.{fileChecks, networkOf, sizesOf}
@@ -155,7 +156,11 @@ module _ (k w h : ℕ) (x : Half) (counts : Counts) (lent : FrontTables) (g : Go
       witnesses-long =
           after-witnesses k w h (countOf x counts) (partOf x (h * k) (lent .costs)) (partOf x (h * w) (lent .witnesses)) costs-half witnesses-half (count-few g x) e vector path l
 
--- The entry of a drawn tree of an accepted file
+-- What is entered for drawn rows, by their cost and their path; of a tree of an accepted file it is as wide as the tables' rows
+
+pub entry-is : (w : Network) (drawn : List ℕ) {v p : List ℕ} → costOf w drawn ≡ v → pathOf (graphOf w) drawn ≡ some p → entryOf w drawn ≡ record { vector = v; path = p }
+unfolding entryOf
+entry-is w drawn priced found = rw (priced, found)
 
 entry-vector : (f drawn : List ℕ) → Accepted f → length (entryOf (networkOf f) drawn .vector) ≡ sizesOf f .k
 unfolding entryOf

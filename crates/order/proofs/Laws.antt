@@ -5,13 +5,12 @@ use mathlib.Core.List.{List, []}
 use Prim.Native.Nat.{_<_, _≤_, ℕ}
 use native.Mathlib.Omega.{arith}
 use lib.ListN.{length, length-map, take}
-use lib.Seq.{take-all}
 use borrow.Author.Tests.{le-leb, lt-leb}
 use Rattle.checks.specs.Checks.{answered, firstUnmet, refused}
 use Rattle.graph.specs.Paths.{pathIn}
 use Rattle.operations.specs.Operations.{orderCall, orderChecks, over}
 use Rattle.copies.specs.Copies.{copied}
-use Rattle.copies.proofs.Copies.{copied-first}
+use Rattle.copies.proofs.Copies.{copied-whole}
 use Rattle.paths.specs.Path.{keysOf, rowsIn}
 use Rattle.drawn.specs.Answers.{drawnCall}
 use Rattle.drawn.proofs.Answers.{Passed, answered-by, call-met, call-refused, call-short}
@@ -36,8 +35,7 @@ module _ (f rows : List ℕ) (d : DrawnAnswer) (asked : drawnOf d ≡ drawnCall 
     pub path-copied : (buffer after : List ℕ) → length rows ≤ length buffer → after ≡ copied buffer 0 (take (length rows) places) (length (take (length rows) places))
         → after ≡ over (rowsIn (d .path)) buffer
     path-copied buffer after room copies =
-        copies ∙ copied-first buffer (take (length rows) places)
-        ∙ ap (λ (l : List ℕ). over l buffer) (take-all (length buffer) (take (length rows) places) (omega (arith, path-length)) ∙ path-part)
+        copies ∙ copied-whole buffer (take (length rows) places) (omega (arith, path-length)) ∙ ap (λ (l : List ℕ). over l buffer) path-part
 
   module _ (buffer : List ℕ) where
     pub order-refused : ¬ (d .number ≡ 0) → record { outcome = refused (d .number); buffers = buffer } ≡ orderCall f rows buffer

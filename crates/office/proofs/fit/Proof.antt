@@ -2,8 +2,8 @@
 use mathlib.Core.Path.{_∙_, sym}
 use native.Mathlib.Omega.{arith}
 use borrow.Author.Needs.{needs}
-use borrow.Author.Tests.{eqb-true, not-false, not-true}
-use Rattle.office.proofs.Laws.{fit-last, fit-says, unfit, unlike}
+use borrow.Author.Tests.{eqb-false, eqb-true, not-false, not-true}
+use Rattle.office.proofs.Laws.{fit-last, fit-says, unfit}
 use Rattle.office.proofs.fit.Statement.{statement}
 use Rattle.office.proofs.fit.Tie as tie
 
@@ -20,13 +20,13 @@ has-rows-requires : tie.Need-has-rows-requires
 has-rows-requires c κs = search needs
 
 returns-4 : tie.Need-returns-4
-returns-4 c = unfit _ _ _ _ _ _ (λ t. let (_, _, _, g) = fit-says _ _ _ _ _ _ t in unlike (sym (c .before .has-rows .ensures) ∙ not-true _ (c .if4 .taken)) (g .costs))
+returns-4 c = unfit _ _ _ _ _ _ (λ t. let (_, _, _, g) = fit-says _ _ _ _ _ _ t in eqb-false _ _ (sym (c .before .has-rows .ensures) ∙ not-true _ (c .if4 .taken)) (g .costs))
 
 has-rows-requires-2 : tie.Need-has-rows-requires-2
 has-rows-requires-2 c κs = search needs
 
 returns-5 : tie.Need-returns-5
-returns-5 c = unfit _ _ _ _ _ _ (λ t. let (_, _, _, g) = fit-says _ _ _ _ _ _ t in unlike (sym (c .before .has-rows2 .ensures) ∙ not-true _ (c .if5 .taken)) (g .witnesses))
+returns-5 c = unfit _ _ _ _ _ _ (λ t. let (_, _, _, g) = fit-says _ _ _ _ _ _ t in eqb-false _ _ (sym (c .before .has-rows2 .ensures) ∙ not-true _ (c .if5 .taken)) (g .witnesses))
 
 returns-6 : tie.Need-returns-6
 returns-6 c = unfit _ _ _ _ _ _ (λ t. let (_, _, _, g) = fit-says _ _ _ _ _ _ t in omega (arith, c .if6 .taken, g .first))
