@@ -19,7 +19,7 @@ use Rattle.costs.specs.Layouts.{layouts}
 use Rattle.costs.specs.Network.{Kind, Network, graphOf}
 use Rattle.costs.proofs.Fronts.{Sized}
 use Rattle.costs.proofs.Layouts.{layouts-part}
-use Rattle.costs.proofs.Networks.{vectors-sized}
+use Rattle.costs.proofs.Networks.{cost-length, vectors-sized}
 use Rattle.costs.proofs.Vectors.{dominates-less, noneLarger-cases, noneLarger-trans, vector-order}
 use Rattle.costs.proofs.Criteria.{kinds-length}
 use Rattle.tables.specs.Tables.{Table, below, enterBounded, walk}
@@ -41,9 +41,6 @@ through-behind {g} {L} part prefix = append-assoc (beforePrefix L prefix) (branc
 -- bounds have a part for each criterion
 pub bound-length : (w : Network) (least : Kind → ℕ → ℕ → ℕ) (prefix : List ℕ) → length (boundWith w least prefix) ≡ length (w .kinds)
 bound-length w least prefix = kinds-length _ 0 (w .kinds)
-
-pub cost-length : (w : Network) (p : List ℕ) → length (costOf w p) ≡ length (w .kinds)
-cost-length w p = vectors-sized w (p ∷ []) (costOf w p) (here refl)
 
 -- where a walk stands: before the tree P, or right behind it
 pub data At (done early : List (List ℕ)) (P : List ℕ) : Type 0 where

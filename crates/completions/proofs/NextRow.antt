@@ -16,8 +16,7 @@ use Rattle.graph.proofs.Tree.{minimal-tree, tree-minimal, tree-out}
 use Rattle.costs.specs.Costs.{costOf, frontOf, noneLarger, vectorLess}
 use Rattle.costs.specs.Network.{Network}
 use Rattle.costs.proofs.Fronts.{Sized, front-out}
-use Rattle.costs.proofs.Networks.{vectors-sized}
-use Rattle.bounds.proofs.Skip.{cost-length}
+use Rattle.costs.proofs.Networks.{cost-length, vectors-sized}
 use Rattle.states.specs.States.{treesWith}
 use Rattle.states.proofs.With.{with-mem}
 use Rattle.tables.proofs.Known.{Known, known-initial, known-nothing}

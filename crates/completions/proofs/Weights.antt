@@ -18,8 +18,8 @@ use Rattle.graph.specs.Graph.{Graph}
 use Rattle.graph.proofs.Minimal.{WellFormed}
 use Rattle.costs.specs.Costs.{costAt, costBy, costOf, inStreet, streetCost}
 use Rattle.costs.specs.Network.{Kind, Network, added, closing, worst}
+use Rattle.costs.proofs.Networks.{cost-length}
 use Rattle.bounds.proofs.Closing.{streetOf}
-use Rattle.bounds.proofs.Skip.{cost-length}
 use Rattle.forests.specs.Forests.{weight}
 use Rattle.forests.proofs.Joined.{Lies}
 use Rattle.completions.specs.Boxes.{dot, mix, total}

@@ -27,10 +27,10 @@ use Rattle.costs.specs.Costs.{costAt, costOf}
 use Rattle.costs.specs.Layouts.{mustEnd, mustFirsts, mustRows, openEnd}
 use Rattle.costs.specs.Network.{Kind, Row, added, closing, worst}
 use Rattle.costs.proofs.Layouts.{keeps-out, layouts-mem, must-distinct}
+use Rattle.costs.proofs.Networks.{cost-length}
 use Rattle.forests.proofs.Forest.{Forest}
 use Rattle.forests.proofs.Joined.{Lies}
 use Rattle.bounds.proofs.Limits.{costs-most}
-use Rattle.bounds.proofs.Skip.{cost-length}
 use Rattle.states.specs.States.{mustRow}
 use Rattle.states.proofs.Open.{forest-open, layouts-exist, musts-of}
 use Rattle.network_file.specs.File.{byteAt, networkOf, sizesOf}

@@ -1,5 +1,6 @@
--- The graph of a network is well formed (`network-formed`), and all its cost vectors have as many parts as there are criteria (`vectors-sized`).
-use mathlib.Core.Path.{_∙_, ap, sym}
+-- The graph of a network is well formed (`network-formed`), and all its cost vectors have as many parts as there are criteria (`cost-length`,
+-- `vectors-sized`).
+use mathlib.Core.Path.{_∙_, _≡_, ap, sym}
 use mathlib.Core.List.{List, map, Memᴰ·of-map as map-out}
 use Prim.Native.Nat.{_<_, ℕ}
 use native.Mathlib.Omega.{arith}
@@ -19,6 +20,9 @@ network-formed w h = record {
   noZero = λ i. let b = range-out 1 (w .nodeCount) i .0 in omega arith;
 }
 
-pub vectors-sized : (g : Network) (ts : List (List ℕ)) → Sized (length (g .kinds)) (map (costOf g) ts)
+pub cost-length : (w : Network) (p : List ℕ) → length (costOf w p) ≡ length (w .kinds)
 unfolding costOf
-vectors-sized g ts w m = let t = map-out (costOf g) ts m in sym (ap length (t .2)) ∙ kinds-length (λ kind c. costBy kind g c (t .0)) 0 (g .kinds)
+cost-length w p = kinds-length (λ kind c. costBy kind w c p) 0 (w .kinds)
+
+pub vectors-sized : (g : Network) (ts : List (List ℕ)) → Sized (length (g .kinds)) (map (costOf g) ts)
+vectors-sized g ts w m = let t = map-out (costOf g) ts m in sym (ap length (t .2)) ∙ cost-length g (t .0)

@@ -17,10 +17,10 @@ use Rattle.lists.proofs.Ranges.{range-length}
 use Rattle.graph.specs.Graph.{Graph}
 use Rattle.costs.specs.Costs.{costOf}
 use Rattle.costs.specs.Network.{Network}
+use Rattle.costs.proofs.Networks.{cost-length}
 use Rattle.forests.proofs.Forest.{Forest, forest-part}
 use Rattle.forests.proofs.Joined.{lies-known}
 use Rattle.forests.proofs.Parts.{forest-size}
-use Rattle.bounds.proofs.Skip.{cost-length}
 use Rattle.completions.specs.Boxes.{inside}
 use Rattle.completions.specs.Greedy.{greedy}
 use Rattle.completions.specs.Labels.{labelsOf}

@@ -20,7 +20,7 @@ use Rattle.graph.proofs.Minimal.{minimal-parts}
 use Rattle.graph.proofs.PathOf.{pathOf-tree}
 use Rattle.costs.specs.Costs.{costOf}
 use Rattle.costs.specs.Network.{Network, graphOf}
-use Rattle.costs.proofs.Networks.{vectors-sized}
+use Rattle.costs.proofs.Networks.{cost-length}
 use Rattle.table.specs.Enter.{Row, costsOver, witnessesOver}
 use Rattle.network_file.specs.File.{fileChecks, networkOf, sizesOf}
 use Rattle.network_file.proofs.Accepted.{Accepted, accepted}
@@ -164,7 +164,7 @@ entry-is w drawn priced found = rw (priced, found)
 
 entry-vector : (f drawn : List ℕ) → Accepted f → length (entryOf (networkOf f) drawn .vector) ≡ sizesOf f .k
 unfolding entryOf
-entry-vector f drawn a = vectors-sized (networkOf f) (drawn ∷ []) (costOf (networkOf f) drawn) (here refl) ∙ a .kinds
+entry-vector f drawn a = cost-length (networkOf f) drawn ∙ a .kinds
 
 entry-path : (f drawn : List ℕ) → Accepted f → T (isTree (graphIn f) drawn) → length (entryOf (networkOf f) drawn .path) ≡ width (graphIn f)
 unfolding entryOf

@@ -4,21 +4,21 @@ use mathlib.Core.Path.{_∙_, _≡_, ap, ap₂, refl, subst, sym}
 use mathlib.Core.Logic.{⊎-elim}
 use mathlib.Core.Bool.{Bool}
 use mathlib.Core.Option.{Option, none, some}
-use mathlib.Core.List.{List, [], _∷_, List·Memᴰ·head as here, map, List·Memᴰ·cases-cons as mem-cases, List·Memᴰ·not-nil as mem-nil}
+use mathlib.Core.List.{List, [], _∷_, map, List·Memᴰ·cases-cons as mem-cases, List·Memᴰ·not-nil as mem-nil}
 use Prim.Native.Nat.{_*_, _<_, ℕ}
 use native.Mathlib.Decide.{ℕ-discrete}
 use native.Mathlib.Omega.{arith}
 use lib.Dec.{eqb, eqb→eq}
 use lib.ListN.{length}
 use Rattle.lists.specs.Lists.{filterB}
-use Rattle.lists.proofs.Members.{filter-skip}
-use Rattle.lists.proofs.Tests.{T-true, eq→eqb}
+use Rattle.lists.proofs.Members.{filter-keep, filter-skip}
+use Rattle.lists.proofs.Tests.{eq→eqb}
 use Rattle.checks.specs.Checks.{Ended, Outcome, answered, buffersBy, checked, ended, firstUnmet, outcomeBy, refused}
 use Rattle.graph.specs.Graph.{width}
 use Rattle.costs.specs.Costs.{costOf}
 use Rattle.costs.specs.Network.{Network}
 use Rattle.costs.proofs.Fronts.{Sized}
-use Rattle.costs.proofs.Networks.{vectors-sized}
+use Rattle.costs.proofs.Networks.{cost-length}
 use Rattle.tables.specs.Tables.{enterAll}
 use Rattle.tables.proofs.Witness.{enterAll-witnessed}
 use Rattle.pages.specs.Pages.{pieces}
@@ -38,8 +38,7 @@ module _ {A B : Type 0} (numbered : A → ℕ) (f : A → B) (n : ℕ) (a : A) (
   bears a = eqb (numbered a) n
 
   part-mine : numbered a ≡ n → map f (filterB bears (a ∷ l)) ≡ f a ∷ map f (filterB bears l)
-  unfolding filterB
-  part-mine q = rw (T-true (bears a) .0 (eq→eqb (numbered a) n q))
+  part-mine q = ap (map f) (filter-keep bears a l (eq→eqb (numbered a) n q))
 
   part-not : ¬ (numbered a ≡ n) → map f (filterB bears (a ∷ l)) ≡ map f (filterB bears l)
   part-not q = ap (map f) (filter-skip bears a l (λ t. q (eqb→eq (numbered a) n t)))
@@ -156,7 +155,7 @@ module _ (w : Network) (h : ℕ) where
   accepted-sized (d ∷ ds) [] v m = absurd (mem-nil m)
   accepted-sized (d ∷ ds) (refused e ∷ os) v m = accepted-sized ds os v m
   accepted-sized (d ∷ ds) (answered a ∷ os) v m = ⊎-elim
-      (λ (q : v ≡ costOf w d). ap length q ∙ vectors-sized w (d ∷ []) (costOf w d) (here refl))
+      (λ (q : v ≡ costOf w d). ap length q ∙ cost-length w d)
       (accepted-sized ds os v) (mem-cases m)
 
   own-holds : (ds : List (List ℕ)) → Holds (acceptedOf w ds (own w h ds .outcomes)) (own w h ds .rows)

@@ -20,8 +20,8 @@ use Rattle.lists.proofs.Ranges.{getD-map-range}
 use Rattle.costs.specs.Costs.{closingCost, costAt, costBy, costOf, streetCost, streetsOf}
 use Rattle.costs.specs.Network.{Network, Row, added, closing, noRow, rowAt, worst}
 use Rattle.costs.proofs.Criteria.{kinds-at}
+use Rattle.costs.proofs.Networks.{cost-length}
 use Rattle.bounds.specs.Bounds.{excessAt}
-use Rattle.bounds.proofs.Skip.{cost-length}
 use Rattle.completions.specs.Boxes.{inside}
 use Rattle.completions.proofs.Beside.{closing-beside}
 use Rattle.tally.specs.Tally.{addedIn, closingIn, componentIn, costIn, dayIn, daysIn, kindCost, kindOf, leadIn, tableOf, tableRow, vectorIn, worstIn}

@@ -17,8 +17,8 @@ use Rattle.graph.specs.Paths.{Key}
 use Rattle.costs.specs.Costs.{costBy, costOf}
 use Rattle.costs.specs.Network.{Kind, added}
 use Rattle.costs.proofs.Criteria.{kinds-at}
+use Rattle.costs.proofs.Networks.{cost-length}
 use Rattle.bounds.proofs.Limits.{by-kind}
-use Rattle.bounds.proofs.Skip.{cost-length}
 use Rattle.network_file.specs.File.{byteAt, kindOf, networkOf, sizesOf}
 use Rattle.network_file.proofs.Accepted.{Accepted}
 use Rattle.paths.specs.Path.{keysOf, rowsIn}

@@ -17,9 +17,9 @@ use Rattle.graph.proofs.Parts.{FirstIn, LastIn, NextIn, Part}
 use Rattle.graph.proofs.Unique.{completion-length}
 use Rattle.costs.specs.Costs.{costOf}
 use Rattle.costs.specs.Layouts.{mustRows}
+use Rattle.costs.proofs.Networks.{cost-length}
 use Rattle.tables.specs.Tables.{Table}
 use Rattle.bounds.proofs.Missing.{rows-map}
-use Rattle.bounds.proofs.Skip.{cost-length}
 use Rattle.network_file.specs.File.{networkOf}
 use Rattle.operations.specs.Operations.{layoutsIn, openIn}
 use Rattle.operations.proofs.Files.{formed, layouts-open-in, several}
