@@ -1,0 +1,13 @@
+pub mod Labels
+pub mod Alike
+pub mod Laws
+pub mod Matrix
+pub mod Steps
+pub mod Held
+pub mod Listed
+pub mod Fill
+pub mod HeldSteps
+pub mod States
+pub mod Arrays
+pub mod Rows
+pub mod Count

@@ -1,0 +1,5 @@
+pub mod Trees
+pub mod Count
+pub mod Counting
+pub mod Matrix
+pub mod States

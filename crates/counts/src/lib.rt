@@ -1,0 +1,1 @@
+//! Counting spanning trees by dropping and by merging, with no code.
