@@ -13,10 +13,12 @@ use Rattle.network_file.specs.File.{fileChecks, networkOf, openOf}
 use Rattle.operations.specs.Operations.{check, costCall, costChecks, drawnChecks, frontCall, frontChecks, graphIn, orderCall, orderChecks, pageCall, pageChecks, reachCall, startChecks, treeChecks}
 use Rattle.operations.proofs.Runs.{claim}
 use Rattle.charges.specs.Charges.{chargeCall, chargeChecks}
+use Rattle.counts.specs.Count.{countCall, countChecks}
 use Rattle.offices.specs.Offices.{Counts, officeCall, officeChecks}
 use Rattle.offices.proofs.Calls.{other-kept}
 use Rattle.offices.proofs.Offices.{offices}
 use Rattle.demands.specs.Demands.{Demand1, Demand2, Demand3, Passes, Tree, fileNumbers, numbers, startNumbers}
+use Rattle.demands.proofs.Counts.{count-claim}
 use Rattle.demands.proofs.Fronts.{front-claim, front-is}
 use Rattle.demands.proofs.Pages.{complete, page-from}
 use Rattle.demands.proofs.Refusals.{refuses-checked, refuses-ended, start-order}
@@ -33,10 +35,11 @@ page-others f page start = ap (λ (l : List ℕ). member 12 (11 ∷ l)) (start-o
 
 pub demand-1 : (f rows : List ℕ) (criterion : ℕ) (buffer page start costs witnesses : List ℕ) (office h : ℕ) (counts : Counts)
     → Demand1 f rows criterion buffer page start costs witnesses office h counts
-unfolding openOf reachCall orderCall costCall chargeCall pageCall frontCall officeCall fileChecks orderChecks costChecks chargeChecks pageChecks frontChecks officeChecks drawnChecks treeChecks
+unfolding openOf reachCall countCall orderCall costCall chargeCall pageCall frontCall officeCall fileChecks countChecks orderChecks costChecks chargeChecks pageChecks frontChecks officeChecks drawnChecks treeChecks
 demand-1 f rows criterion buffer page start costs witnesses office h counts = record {
   opens = refuses-checked (fileChecks f) _;
   reaches = refuses-checked (fileChecks f) _;
+  tallies = refuses-checked (countChecks f) _;
   orders = refuses-ended (orderChecks f rows buffer) _ buffer _;
   prices = refuses-ended (costChecks f rows buffer) _ buffer _;
   charges = refuses-ended (chargeChecks f rows criterion buffer) _ buffer _;
@@ -46,6 +49,7 @@ demand-1 f rows criterion buffer page start costs witnesses office h counts = re
   pages-none = twelve f _ (page-others f page start) _ page _;
   fronts-none = twelve f _ (start-others []) _ (record { costs = costs; witnesses = witnesses }) _;
   file-order = refl;
+  count-order = refl;
   order-order = refl;
   cost-order = refl;
   charge-order = refl;
@@ -61,6 +65,7 @@ demand-2 f ok = record {
   ascending = layouts-part (networkOf f) .ascending;
   once = part-distinct (layouts-part (networkOf f));
   each = path-of-tree f ok;
+  counted = count-claim f ok;
   drawn = drawn f ok;
 }
 

@@ -1,3 +1,4 @@
+pub mod Counts
 pub mod Demands
 pub mod Fronts
 pub mod Pages

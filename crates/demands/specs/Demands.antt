@@ -8,6 +8,7 @@
 -- |----------------|---------------------------------|---------|
 -- | network::open  | network_file File openOf        | 1       |
 -- | reach::reach   | operations Operations reachCall | 1, 2    |
+-- | count::count   | counts Count countCall          | 1, 2    |
 -- | order::order   | operations Operations orderCall | 1, 2    |
 -- | cost::cost     | operations Operations costCall  | 1, 2    |
 -- | charge::charge | charges Charges chargeCall      | 1, 2    |
@@ -22,6 +23,7 @@
 -- |---------------------------|-------------------------------|------------|
 -- | planner_c::planner_open   | planner_c Calls plannerOpen   | openOf     |
 -- | planner_c::planner_reach  | planner_c Calls plannerReach  | reachCall  |
+-- | planner_c::planner_count  | planner_c Calls plannerCount  | countCall  |
 -- | planner_c::planner_order  | planner_c Calls plannerOrder  | orderCall  |
 -- | planner_c::planner_cost   | planner_c Calls plannerCost   | costCall   |
 -- | planner_c::planner_charge | planner_c Calls plannerCharge | chargeCall |
@@ -52,6 +54,8 @@ use Rattle.pages.specs.Pages.{capacity, pieces, restAfter}
 use Rattle.operations.specs.Operations.{FrontTables, Fronted, Paged, Reached, costCall, costChecks, frontCall, frontChecks, graphIn, layoutsIn, orderCall, orderChecks, over, pageCall, pageChecks, pickCall, reachCall}
 use Rattle.operations.specs.Runs.{Call, runOf}
 use Rattle.charges.specs.Charges.{Charge, Split, addedAt, chargeCall, chargeChecks, chargedNodes, chargesBy}
+use Rattle.counts.specs.Count.{countCall, countChecks}
+use Rattle.counts.specs.Trees.{treeCount}
 use Rattle.operations.proofs.Runs.{Claim}
 use Rattle.table.specs.Enter.{Row}
 use Rattle.offices.specs.Offices.{Counts, Half, fitsIn, halfOf, halfRows, noteOf, officeCall, officeChecks, partOf, rowsAfter, tablesFit, written}
@@ -89,10 +93,11 @@ abbrev pub startNumbers : List ℕ → List ℕ
 startNumbers [] = []
 startNumbers (r ∷ rs) = 8 ∷ 9 ∷ 10 ∷ 15 ∷ 13 ∷ []
 
--- Open and Reach are lent nothing to write in
+-- Open, Reach and Count are lent nothing to write in
 pub record Demand1 (f rows : List ℕ) (criterion : ℕ) (buffer page start costs witnesses : List ℕ) (office h : ℕ) (counts : Counts) : Type 0 where
   pub opens : (e : ℕ) → (openOf f ≡ refused e) ↔ StopsAt (fileChecks f) e
   pub reaches : (e : ℕ) → (reachCall f ≡ refused e) ↔ StopsAt (fileChecks f) e
+  pub tallies : (e : ℕ) → (countCall f ≡ refused e) ↔ StopsAt (countChecks f) e
   pub orders : Refuses (orderChecks f rows buffer) (orderCall f rows buffer) buffer
   pub prices : Refuses (costChecks f rows buffer) (costCall f rows buffer) buffer
   pub charges : Refuses (chargeChecks f rows criterion buffer) (chargeCall f rows criterion buffer) buffer
@@ -102,8 +107,9 @@ pub record Demand1 (f rows : List ℕ) (criterion : ℕ) (buffer page start cost
   -- 12 exactly if there is no tree
   pub pages-none : (pageCall f page start .outcome ≡ refused 12) ↔ NoTree f
   pub fronts-none : (frontCall f costs witnesses .outcome ≡ refused 12) ↔ NoTree f
-  -- document 01's order, with 14, 15, 22 and 24 of document 02
+  -- document 01's order, with 14, 15, 22, 24 and 25 of document 02
   pub file-order : numbers (fileChecks f) ≡ fileNumbers
+  pub count-order : numbers (countChecks f) ≡ fileNumbers ++ (25 ∷ [])
   pub order-order : numbers (orderChecks f rows buffer) ≡ fileNumbers ++ (8 ∷ 9 ∷ 10 ∷ 15 ∷ 11 ∷ [])
   pub cost-order : numbers (costChecks f rows buffer) ≡ fileNumbers ++ (8 ∷ 9 ∷ 10 ∷ 15 ∷ 11 ∷ [])
   pub charge-order : numbers (chargeChecks f rows criterion buffer) ≡ fileNumbers ++ (8 ∷ 9 ∷ 10 ∷ 15 ∷ 11 ∷ 22 ∷ [])
@@ -113,7 +119,7 @@ pub record Demand1 (f rows : List ℕ) (criterion : ℕ) (buffer page start cost
 
 -- Demand 2, of a file that passes: each listed layout is a tree of the network, written as its minimal path; each drawn tree is turned into the one
 -- minimal path with exactly its rows; each cost is the defined one, over those rows, and at most 31,000,000; the cost in an added criterion is split
--- among nodes 2 to n without loss; and an office enters that path with that cost.
+-- among nodes 2 to n without loss; an office enters that path with that cost; and Count says how many trees the list has.
 
 -- a tree exists exactly if Reach's size is n and the must rows have no cycle
 pub record Exists (f : List ℕ) : Type 0 where
@@ -153,12 +159,20 @@ pub record Drawn (f rows path : List ℕ) : Type 0 where
       → officeCall f rows office h counts lent
       ≡ record { outcome = answered (noteOf before entry); buffers = written (sizesOf f .k) (width (graphIn f)) h (halfOf office) (rowsAfter before entry) lent }
 
+-- the number by dropping and by merging is the list's length, 0 without a tree, and Count answers it unless it exceeds 4,000,000,000
+pub record CountClaim (f : List ℕ) : Type 0 where
+  pub listed : treeCount (networkOf f) ≡ length (layoutsIn f)
+  pub answers : length (layoutsIn f) ≤ 4000000000 → countCall f ≡ answered (length (layoutsIn f))
+  pub refuses : (countCall f ≡ refused 25) ↔ (4000000000 < length (layoutsIn f))
+  pub none : (countCall f ≡ answered 0) ↔ ((rows : List ℕ) → ¬ Tree f rows)
+
 pub record Demand2 (f : List ℕ) : Type 0 where
   pub exists : Exists f
   pub trees-are : (path : List ℕ) → path ∈ layoutsIn f → Tree f path × T (isMinimal (graphIn f) path)
   pub ascending : Ascending (pathLess (graphIn f)) (layoutsIn f)
   pub once : Distinct (layoutsIn f)
   pub each : (rows : List ℕ) → T (isTree (graphIn f) rows) → PathOfTree f rows
+  pub counted : CountClaim f
   pub drawn : (rows : List ℕ) (tree : Tree f rows) → Drawn f rows (each rows (tree .0) .path)
 
 -- Demand 3, of a file that passes and whose network has a tree: the run of pages, for every list of calls; the front beside it; and the fronts of two offices'

@@ -8,7 +8,8 @@ use Rattle.graph.specs.Graph.{isTree}
 use Rattle.graph.specs.Paths.{pathOf, trees}
 use Rattle.costs.specs.Costs.{costOf, front, frontOf}
 use Rattle.costs.specs.Layouts.{layouts}
-use Rattle.costs.specs.Network.{Network, added, barred, closing, graphOf, must, «open», worst}
+use Rattle.costs.specs.Network.{Network, Row, added, barred, closing, graphOf, must, «open», worst}
+use Rattle.counts.specs.Trees.{treeCount}
 use Rattle.pages.specs.Pages.{Outcome, run}
 use Rattle.tables.specs.Tables.{Found, Plan, Table, pass, placed, plan}
 
@@ -17,6 +18,8 @@ pub data Example : Type 0 where
   treesAre : Network → List (List ℕ) → Example
   -- those that keep the rows' states
   layoutsAre : Network → List (List ℕ) → Example
+  -- how many, by dropping and by merging
+  countIs : Network → ℕ → Example
   -- the front of a network, and of a list of vectors
   frontIs : Network → List (List ℕ) → Example
   frontOfIs : List (List ℕ) → List (List ℕ) → Example
@@ -35,6 +38,7 @@ pub data Example : Type 0 where
 abbrev pub Right : Example → Type 0
 Right (treesAre g l) = trees (graphOf g) ≡ l
 Right (layoutsAre g l) = layouts g ≡ l
+Right (countIs g n) = treeCount g ≡ n
 Right (frontIs g l) = front g ≡ l
 Right (frontOfIs vs l) = frontOf vs ≡ l
 Right (costIs g rs v) = costOf g rs ≡ v
@@ -87,6 +91,17 @@ C = record {
       record { firstEnd = 1; secondEnd = 2; street = 0; state = «open»; costs = 4 ∷ 4 ∷ [] } ∷ [];
 }
 
+abbrev edge : ℕ → ℕ → Row
+edge a b = record { firstEnd = a; secondEnd = b; street = 0; state = «open»; costs = [] }
+
+-- four nodes with all six pairs
+abbrev pub K4 : Network
+K4 = record {
+  nodeCount = 4;
+  kinds = [];
+  rows = edge 1 2 ∷ edge 1 3 ∷ edge 1 4 ∷ edge 2 3 ∷ edge 2 4 ∷ edge 3 4 ∷ [];
+}
+
 -- The bound falls on a member of the front while the table is full of vectors that are no members: a second pass finds it.
 abbrev late : List (List ℕ)
 late = (1 ∷ 9 ∷ []) ∷ (2 ∷ 8 ∷ []) ∷ (5 ∷ 1 ∷ []) ∷ (0 ∷ 3 ∷ []) ∷ []
@@ -99,6 +114,9 @@ table =
     treesAre A ((0 ∷ 2 ∷ []) ∷ (0 ∷ 3 ∷ []) ∷ (1 ∷ 2 ∷ []) ∷ (1 ∷ 3 ∷ []) ∷ (2 ∷ 3 ∷ []) ∷ [])
     ∷ layoutsAre A ((0 ∷ 2 ∷ []) ∷ (0 ∷ 3 ∷ []) ∷ (1 ∷ 2 ∷ []) ∷ (1 ∷ 3 ∷ []) ∷ (2 ∷ 3 ∷ []) ∷ [])
     ∷ layoutsAre B ((1 ∷ 3 ∷ []) ∷ (2 ∷ 3 ∷ []) ∷ [])
+    ∷ countIs A 5
+    ∷ countIs B 2
+    ∷ countIs K4 16
     ∷ frontIs B ((8 ∷ 6 ∷ []) ∷ [])
     ∷ frontIs A ((7 ∷ 7 ∷ []) ∷ (8 ∷ 6 ∷ []) ∷ (11 ∷ 5 ∷ []) ∷ [])
     -- a named street is closed once, in each criterion for the largest days of its rows; rows of street 0 count one by one

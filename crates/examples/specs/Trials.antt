@@ -1,6 +1,6 @@
 -- Document 01's starred trials, as questions to the definitions of the operations, each with its answer, on network A's file; and trials
 -- of document 02's row states (#102) and first witness (#101) on files with the same ends, of streets closed once (#103) on network C's, of
--- comparison by cases (#105), of the connection charge (#109), and of two offices in one table (#111).
+-- comparison by cases (#105), of the connection charge (#109), of two offices in one table (#111), and of the count (#112).
 use mathlib.Core.Path.{_≡_}
 use mathlib.Core.Bool.{Bool, false, true}
 use mathlib.Core.List.{List, [], _∷_, map}
@@ -14,6 +14,7 @@ use Rattle.costs.specs.Network.{Network}
 use Rattle.network_file.specs.File.{Sizes, networkOf, openOf}
 use Rattle.operations.specs.Operations.{FrontTables, Fronted, Paged, Reached, costCall, frontCall, layoutsIn, orderCall, pageCall, reachCall}
 use Rattle.charges.specs.Charges.{Charge, chargeCall, chargeOf, chargesBy}
+use Rattle.counts.specs.Count.{countCall}
 use Rattle.offices.specs.Offices.{Counts, Noted, officeCall}
 use Rattle.examples.specs.Examples.{A, B, C}
 
@@ -69,6 +70,7 @@ pub data Trial : Type 0 where
   list : List ℕ → List (List ℕ) → Trial
   fronts : List ℕ → List (List ℕ) → Trial
   reached : List ℕ → Outcome Reached → Trial
+  counted : List ℕ → Outcome ℕ → Trial
   -- Order of these rows into a buffer of three places
   order : List ℕ → List ℕ → Ended (Unit {0}) (List ℕ) → Trial
   -- Cost of them, likewise
@@ -96,6 +98,7 @@ Right (network f w) = networkOf f ≡ w
 Right (list f l) = layoutsIn f ≡ l
 Right (fronts f l) = front (networkOf f) ≡ l
 Right (reached f o) = reachCall f ≡ o
+Right (counted f o) = countCall f ≡ o
 Right (order f rows e) = orderCall f rows buffer ≡ e
 Right (cost f rows e) = costCall f rows buffer ≡ e
 Right (charge f rows criterion buffer e) = chargeCall f rows criterion buffer ≡ e
@@ -231,4 +234,13 @@ table =
     (noted true 2 (7 ∷ 7 ∷ 8 ∷ 6 ∷ 0 ∷ 0 ∷ 0 ∷ 0 ∷ []) (0 ∷ 3 ∷ 2 ∷ 3 ∷ 4 ∷ 4 ∷ 4 ∷ 4 ∷ []))
     ∷ office fileA (2 ∷ 3 ∷ []) 1 2 (filled 2 0) (tables (9 ∷ 6 ∷ 9 ∷ 7 ∷ 0 ∷ 0 ∷ 0 ∷ 0 ∷ []) (1 ∷ 3 ∷ 0 ∷ 2 ∷ 4 ∷ 4 ∷ 4 ∷ 4 ∷ []))
     (noted true 1 (8 ∷ 6 ∷ 9 ∷ 7 ∷ 0 ∷ 0 ∷ 0 ∷ 0 ∷ []) (2 ∷ 3 ∷ 0 ∷ 2 ∷ 4 ∷ 4 ∷ 4 ∷ 4 ∷ []))
+    -- document 02, #112: as many as the list has, with row 0 a must row, and with it barred
+    ∷ counted fileA (answered 5)
+    ∷ counted fileB (answered 2)
+    ∷ counted (withStates 1 0 0 0) (answered 2)
+    ∷ counted (withStates 2 0 0 0) (answered 3)
+    -- a must row that has become a loop, and no tree
+    ∷ counted (withStates 1 1 0 0) (answered 0)
+    ∷ counted (withStates 2 2 0 2) (answered 0)
+    ∷ counted [] (refused 1)
     ∷ []

@@ -14,6 +14,9 @@ use Rattle.copies.specs.Copies.{copied}
 use Rattle.copies.proofs.Copies.{copied-first}
 use Rattle.planner_c.specs.Calls.{answering, answeringBeside, ending, plannerPick}
 
+pub over-one : (answer : List ℕ) (x : ℕ) → 1 ≤ length answer → set answer 0 x ≡ over (x ∷ []) answer
+over-one answer x enough = over-next (x ∷ []) answer 0 (omega arith) (omega arith)
+
 pub over-two : (answer : List ℕ) (x y : ℕ) → 2 ≤ length answer → set (set answer 0 x) 1 y ≡ over (x ∷ y ∷ []) answer
 over-two answer x y enough =
     ap (λ l. set l 1 y) (over-next (x ∷ y ∷ []) answer 0 (omega arith) (omega arith)) ∙ over-next (x ∷ y ∷ []) answer 1 (omega arith) (omega arith)
@@ -43,6 +46,10 @@ module _ {A : Type 0} (values : A → List ℕ) (outcome : Outcome A) (answer : 
   pub answering-refused : (places number : ℕ) → places ≤ length answer → outcome ≡ refused number → record { code = number; buffers = answer } ≡ answering places values outcome answer
   unfolding answering
   answering-refused places number enough told = simp (le-ltb _ _ enough, told)
+
+  pub answering-one : (a : A) (x : ℕ) → 1 ≤ length answer → outcome ≡ answered a → values a ≡ x ∷ [] → record { code = 0; buffers = set answer 0 x } ≡ answering 1 values outcome answer
+  unfolding answering
+  answering-one a x enough told same = simp (le-ltb _ _ enough, told, same, over-one answer x enough)
 
   pub answering-two : (a : A) (x y : ℕ) → 2 ≤ length answer → outcome ≡ answered a → values a ≡ x ∷ y ∷ [] → record { code = 0; buffers = set (set answer 0 x) 1 y } ≡ answering 2 values outcome answer
   unfolding answering

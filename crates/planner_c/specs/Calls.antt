@@ -11,6 +11,7 @@ use Rattle.checks.specs.Checks.{Ended, Outcome, answered, refused}
 use Rattle.network_file.specs.File.{Sizes, openOf}
 use Rattle.operations.specs.Operations.{FrontTables, Fronted, Paged, Reached, costCall, frontCall, orderCall, over, pageCall, pickCall, reachCall}
 use Rattle.charges.specs.Charges.{Charge, chargeCall}
+use Rattle.counts.specs.Count.{countCall}
 use Rattle.offices.specs.Offices.{Counts, Noted, officeCall}
 
 pub record Called (B : Type 0) : Type 0 where
@@ -83,6 +84,10 @@ plannerOpen file answer = answering 3 sizeValues (openOf file) answer
 -- Reach: the word and the size.
 unfoldable pub plannerReach : List ℕ → List ℕ → Called (List ℕ)
 plannerReach file answer = answering 2 reachedValues (reachCall file) answer
+
+-- Count: the number of trees.
+unfoldable pub plannerCount : List ℕ → List ℕ → Called (List ℕ)
+plannerCount file answer = answering 1 (λ trees. trees ∷ []) (countCall file) answer
 
 -- Order: the path stands in the buffer.
 unfoldable pub plannerOrder : List ℕ → List ℕ → List ℕ → Called (List ℕ)

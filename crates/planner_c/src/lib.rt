@@ -2,6 +2,7 @@
 //! What each call returns and leaves in its buffers stands in specs/Calls.antt.
 use charge::Charged;
 use cost::Costed;
+use count::CountAnswer;
 use fronted::FrontAnswer;
 use network::Opened;
 use office::OfficeAnswer;
@@ -9,7 +10,7 @@ use order::Ordered;
 use page::PageAnswer;
 use reach::ReachAnswer;
 ghost use mathlib.Core.Path.{_≡_};
-ghost use Rattle.planner_c.specs.Calls.{digit, held, plannerCharge, plannerCost, plannerFront, plannerOffice, plannerOpen, plannerOrder, plannerPage, plannerPick, plannerReach};
+ghost use Rattle.planner_c.specs.Calls.{digit, held, plannerCharge, plannerCost, plannerCount, plannerFront, plannerOffice, plannerOpen, plannerOrder, plannerPage, plannerPick, plannerReach};
 
 /// Open: 0 with n, m and k in the first three places of the answer; the refusal's number; or 255 where the answer has
 /// under three places.
@@ -49,6 +50,25 @@ pub extern "C" fn planner_reach(file: &[u8], answer: &mut [u32]) -> u32
             0
         }
         ReachAnswer::Refused(number) => number as u32,
+    }
+}
+
+/// Count: 0 with the number of trees in the first place of the answer; the refusal's number; or 255 where the answer has no
+/// place.
+#[no_mangle]
+pub extern "C" fn planner_count(file: &[u8], answer: &mut [u32]) -> u32
+    ensures { λ r. ⌜ record { code = r; buffers = now (answer .exit) } ≡ plannerCount (now (file .entry)) (now (answer .entry)) ⌝ }
+{
+    if answer.len() < 1 {
+        return 255;
+    }
+    let counted = count::count(file);
+    match counted {
+        CountAnswer::Trees(trees) => {
+            answer[0] = trees;
+            0
+        }
+        CountAnswer::Refused(number) => number as u32,
     }
 }
 

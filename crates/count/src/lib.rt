@@ -1,0 +1,107 @@
+//! Count: how many trees the list has, without listing them. The rows become links between 32 nodes, which are counted by dropping and by merging.
+ghost use mathlib.Core.Path.{_≡_};
+ghost use Prim.Native.Nat.{min};
+ghost use Rattle.counts.specs.Count.{countCall};
+ghost use Rattle.counts.specs.Matrix.{Agree, limit, matrixOf};
+ghost use Rattle.counts.specs.States.{empty, fillHeld, statesOf, weightOf};
+ghost use Rattle.counts.specs.Trees.{treeCount};
+ghost use Rattle.fields.specs.Fields.{stateIn};
+ghost use Rattle.network.specs.Answers.{openedOf};
+ghost use Rattle.network_file.proofs.Accepted.{Accepted};
+ghost use Rattle.network_file.specs.File.{networkOf, sizesOf};
+ghost use Rattle.operations.specs.Operations.{graphIn};
+ghost use Rattle.weights.specs.Weights.{weightIn};
+ghost use Rattle.count.specs.Answers.{countedOf, refusedBy};
+use counted::Links;
+use fields::State;
+use network::Opened;
+use weights::Weight;
+
+/// The answer of Count.
+pub enum CountAnswer {
+    Trees(u32),
+    Refused(u8),
+}
+
+// The weight of a row: an open row is dropped or merged, a must row only merged, a barred row only dropped.
+fn weight_of(state: State) -> Weight
+    ensures { λ r. ⌜ weightIn r ≡ weightOf (stateIn state) ⌝ }
+{
+    match state {
+        State::Open => Weight {
+            dropped: 1,
+            merged: 1,
+        },
+        State::Must => Weight {
+            dropped: 0,
+            merged: 1,
+        },
+        State::Barred => Weight {
+            dropped: 1,
+            merged: 0,
+        },
+    }
+}
+
+// The links of the first m rows, those between the same nodes as one; node p stands at p - 1.
+fn links_of(file: &[u8], m: usize) -> Links
+    requires { ⌜ Accepted (now file) × (m ≡ sizesOf (now file) .m) ⌝ }
+    ensures { λ r. ⌜ Agree (matrixOf (r .dropped) (r .merged)) (fillHeld limit (graphIn (now (file .entry))) 0 (statesOf (networkOf (now (file .entry)))) empty) 32 ⌝ }
+{
+    let mut dropped = [1u32; 1024];
+    let mut merged = [0u32; 1024];
+    let mut r: usize = 0;
+    while r < m {
+        let row = fields::row_at(file, r);
+        let state = row.state;
+        let first = row.first as usize - 1;
+        let second = row.second as usize - 1;
+        weights::add(&mut dropped, &mut merged, first, second, weight_of(state));
+        r += 1;
+    }
+    Links {
+        dropped: dropped,
+        merged: merged,
+    }
+}
+
+// How many trees there are, held.
+fn trees_of(file: &[u8], n: usize, m: usize) -> u32
+    requires { ⌜ Accepted (now file) × (n ≡ sizesOf (now file) .n) × (m ≡ sizesOf (now file) .m) ⌝ }
+    ensures { λ r. ⌜ r ≡ min limit (treeCount (networkOf (now (file .entry)))) ⌝ }
+{
+    let links = links_of(file, m);
+    let dropped = links.dropped;
+    let merged = links.merged;
+    counted::counted(dropped, merged, n)
+}
+
+// A refusal of Open as one of Count; only a refusal is asked.
+fn refused(opened: Opened) -> CountAnswer
+    ensures { λ r. ⌜ countedOf r ≡ refusedBy (openedOf opened) ⌝ }
+{
+    match opened {
+        Opened::Header(_) => CountAnswer::Refused(0),
+        Opened::Refused(number) => CountAnswer::Refused(number),
+    }
+}
+
+/// Count: how many trees the list has; refused by 25 above 4,000,000,000.
+pub fn count(file: &[u8]) -> CountAnswer
+    ensures { λ r. ⌜ countedOf r ≡ countCall (now (file .entry)) ⌝ }
+{
+    let opened = network::open(file);
+    let Opened::Header(header) = opened else {
+        return refused(opened);
+    };
+    // without a tree nothing is counted: a network in two parts would be searched to its end
+    let listed = listed::listed(file);
+    let Opened::Header(_) = listed else {
+        return CountAnswer::Trees(0);
+    };
+    let trees = trees_of(file, header.n as usize, header.m as usize);
+    if 4000000000 < trees {
+        return CountAnswer::Refused(25);
+    }
+    CountAnswer::Trees(trees)
+}
