@@ -1,37 +1,25 @@
 //! Measures the proved library beside plain Rust, both built for release, in one run, and prints tables; with the argument
-//! 'front' the last of them only. It tests nothing but that both list the same trees and have the same fronts.
+//! 'front' the fronts in seconds only, with 'count' the counts. It tests nothing but that both list the same trees, have the
+//! same fronts and count alike.
 
+mod count;
+mod limited;
 mod networks;
 mod seconds;
 
 use std::hint::black_box;
 use std::time::{Duration, Instant};
 
-use planner_tests::ffi;
 use planner_tests::file::Network;
 use planner_tests::walk::Graph;
-use planner_tests::walked;
+use planner_tests::{ffi, pages, walked};
 
 /// The trees of a page, as treelist has them.
 const TREES_A_PAGE: usize = 64;
 
 /// The library's list, page by page.
 fn library_pages(network: &Network, show: &mut impl FnMut(&[u16])) {
-    let file = network.encode();
-    let width = network.width();
-    let mut page = vec![0; TREES_A_PAGE * width];
-    let mut start: Vec<u16> = Vec::new();
-    loop {
-        let mut answer = [0; 2];
-        assert_eq!(ffi::page(&file, &mut page, &start, &mut answer), 0);
-        let filled = answer[0] as usize * width;
-        show(&page[..filled]);
-        if answer[1] == 0 {
-            return;
-        }
-        start.clear();
-        start.extend(&page[filled - width..filled]);
-    }
+    pages::each(network, TREES_A_PAGE, show);
 }
 
 /// The plain walk's list, page by page.
@@ -177,11 +165,15 @@ fn main() {
             tables();
             println!();
             seconds::table();
+            println!();
+            count::table();
         }
         ["front"] => seconds::table(),
         ["front", line, way] => seconds::measure(line, way),
+        ["count"] => count::table(),
+        ["count", line, network, way] => count::measure(line, network, way),
         _ => {
-            eprintln!("usage: bench/run [front]");
+            eprintln!("usage: bench/run [front | count]");
             std::process::exit(2);
         }
     }

@@ -1,19 +1,13 @@
 //! The table of fronts in seconds: the networks of the study of Front's search, the library beside the plain walk and the
-//! plain search. Each is measured in a process of its own, which is stopped at a limit: no call of the library ends early.
-
-use std::process::{Command, Stdio};
-use std::thread;
-use std::time::{Duration, Instant};
+//! plain search. Each is measured in a process of its own, which is stopped at a limit.
 
 use planner_tests::costs::Entry;
 use planner_tests::ffi;
 use planner_tests::file::Network;
 use planner_tests::{search, study, trees, walked};
 
+use crate::limited::{self, LIMIT};
 use crate::FRONT_ROWS;
-
-/// What one way may take for one network, so that no line takes much longer than a minute.
-const LIMIT: Duration = Duration::from_secs(45);
 
 /// The most trees that the walk is asked for.
 const MOST_WALKED: f64 = 3_000_000.0;
@@ -110,22 +104,14 @@ fn digest(front: &[Entry]) -> u64 {
     })
 }
 
-/// One way over the network of one line, for the process that asked: the seconds, the front's size and its digest. What ends
-/// soon is done several times, and the shortest of them told.
+/// One way over the network of one line, for the process that asked: the seconds, the front's size and its digest.
 pub fn measure(line: &str, way: &str) {
     let at: usize = line.parse().expect("the number of a line");
     let network = &lines()[at].network;
     let file = network.encode();
     let way = Way::of(way);
-    let begun = Instant::now();
-    let mut best = Duration::MAX;
-    let mut front = Vec::new();
-    while best == Duration::MAX || begun.elapsed() < Duration::from_millis(200) {
-        let start = Instant::now();
-        front = way.front(network, &file);
-        best = start.elapsed().min(best);
-    }
-    println!("{} {} {}", best.as_secs_f64(), front.len(), digest(&front));
+    let (seconds, front) = limited::shortest(|| way.front(network, &file));
+    println!("{seconds} {} {}", front.len(), digest(&front));
 }
 
 /// What a process told; nothing if it did not end in time.
@@ -136,24 +122,7 @@ struct Told {
 }
 
 fn ask(line: usize, way: Way) -> Option<Told> {
-    let mut child = Command::new(std::env::current_exe().unwrap())
-        .args(["front", &line.to_string(), way.name()])
-        .stdout(Stdio::piped())
-        .spawn()
-        .unwrap();
-    let begun = Instant::now();
-    while child.try_wait().unwrap().is_none() {
-        if begun.elapsed() > LIMIT {
-            child.kill().unwrap();
-            child.wait().unwrap();
-            return None;
-        }
-        thread::sleep(Duration::from_millis(2));
-    }
-    let output = child.wait_with_output().unwrap();
-    assert!(output.status.success(), "line {line}: {}", way.name());
-    let text = String::from_utf8(output.stdout).unwrap();
-    let words: Vec<&str> = text.split_whitespace().collect();
+    let words = limited::ask(&["front", &line.to_string(), way.name()])?;
     Some(Told {
         seconds: words[0].parse().unwrap(),
         size: words[1].parse().unwrap(),
@@ -185,10 +154,7 @@ pub fn table() {
         let size = ended
             .first()
             .map_or("?".to_string(), |told| told.size.to_string());
-        let seconds = |told: &Option<Told>| match told {
-            Some(told) => format!("{:.4}", told.seconds),
-            None => format!("> {}", LIMIT.as_secs()),
-        };
+        let seconds = |told: &Option<Told>| limited::print(told.as_ref().map(|told| told.seconds));
         let kinds: String = line.network.kinds.iter().map(u8::to_string).collect();
         println!(
             "{:36} {kinds:>5} {trees:>9.1e} {size:>6} {:>12} {:>12} {:>12}",

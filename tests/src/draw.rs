@@ -1,6 +1,7 @@
 //! Networks and drawn rows made from seeds: rows beside each other, few costs and streets so that they tie, parts that
 //! nothing joins, nodes that no row touches, rows with states, streets of many rows; rows drawn well, and with slips.
 
+use crate::counts::{self, MOST_TREES};
 use crate::file::{Network, Row, BARRED, MOST, MUST, OPEN};
 use crate::rng::Rng;
 
@@ -39,6 +40,41 @@ pub fn network(rng: &mut Rng, most_nodes: usize, most_rows: usize) -> Network {
 pub fn network_with_states(rng: &mut Rng, most_nodes: usize, most_rows: usize) -> Network {
     let network = network(rng, most_nodes, most_rows);
     states(rng, network)
+}
+
+/// A network of which few rows have a state, or none, so that mostly many trees are left, of at most so many nodes and rows. Any
+/// two nodes may be joined, and every second one of these networks is of the others' kind.
+pub fn network_with_few_states(rng: &mut Rng, most_nodes: usize, most_rows: usize) -> Network {
+    if rng.once_in(2) {
+        return network_with_states(rng, most_nodes, most_rows);
+    }
+    let n = rng.between(2, most_nodes);
+    let m = rng.between(n, most_rows);
+    let (musts, barred) = (rng.pick(&[8, 30, 1_000]), rng.pick(&[4, 12, 1_000]));
+    let states: Vec<u8> = (0..m)
+        .map(|_| match rng.once_in(musts) {
+            true => MUST,
+            false if rng.once_in(barred) => BARRED,
+            false => OPEN,
+        })
+        .collect();
+    Network::random(rng, n, m, 1).with_states(&states)
+}
+
+/// The network with one row more at a time, between any two nodes, until it has more trees than Count answers: the last that has
+/// not, and the first that has. Of the new rows one in so many is barred.
+pub fn up_to_the_limit(rng: &mut Rng, mut network: Network, barred: usize) -> [Network; 2] {
+    loop {
+        let before = network.clone();
+        let mut row = Network::random(rng, network.n as usize, 1, 1)
+            .rows
+            .remove(0);
+        row.state = if rng.once_in(barred) { BARRED } else { OPEN };
+        network.rows.push(row);
+        if counts::count(&network).is_none_or(|trees| trees > MOST_TREES) {
+            return [before, network];
+        }
+    }
 }
 
 /// A network with closing criteria, mostly several, and with few streets, so that most have many rows; 65,535 is always one of

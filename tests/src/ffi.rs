@@ -10,6 +10,8 @@ extern "C" {
 
     fn planner_reach(file: *const u8, file_len: usize, answer: *mut u32, answer_len: usize) -> u32;
 
+    fn planner_count(file: *const u8, file_len: usize, answer: *mut u32, answer_len: usize) -> u32;
+
     fn planner_order(
         file: *const u8,
         file_len: usize,
@@ -97,6 +99,11 @@ pub fn open(file: &[u8], answer: &mut [u32]) -> u32 {
 /// Reach: 0 with the word and the size in the first two places of the answer, or the refusal's number.
 pub fn reach(file: &[u8], answer: &mut [u32]) -> u32 {
     unsafe { planner_reach(file.as_ptr(), file.len(), answer.as_mut_ptr(), answer.len()) }
+}
+
+/// Count: 0 with the number of trees in the first place of the answer, or the refusal's number.
+pub fn count(file: &[u8], answer: &mut [u32]) -> u32 {
+    unsafe { planner_count(file.as_ptr(), file.len(), answer.as_mut_ptr(), answer.len()) }
 }
 
 /// Order: 0 with the path in the buffer's first n - 1 places, or the refusal's number.

@@ -1,8 +1,9 @@
-//! Document 01's operations but Open, with document 02's row states (#102) and connection charge (#109): the number of the
-//! check that refuses a call, or what the call writes in the first places of what it is lent. A buffer is told by its
-//! number of places; its content has no say.
+//! Document 01's operations but Open, with document 02's row states (#102), connection charge (#109) and count (#112): the
+//! number of the check that refuses a call, or what the call writes in the first places of what it is lent. A buffer is told
+//! by its number of places; its content has no say.
 
 use crate::costs::{self, Vector};
+use crate::counts::{self, MOST_TREES};
 use crate::file::Network;
 use crate::reading;
 use crate::trees;
@@ -13,6 +14,15 @@ pub fn reach(file: &[u8]) -> Result<(u32, u32), u32> {
     let nodes = trees::reached(&network);
     let word = nodes.iter().map(|&node| 1 << (node - 1)).sum();
     Ok((word, nodes.len() as u32))
+}
+
+/// Count: the number of trees.
+pub fn count(file: &[u8]) -> Result<u32, u32> {
+    let network = reading::network(file)?;
+    match counts::count(&network) {
+        Some(trees) if trees <= MOST_TREES => Ok(trees as u32),
+        _ => Err(25),
+    }
 }
 
 /// The checks of rows that were drawn in any sequence.

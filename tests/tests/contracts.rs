@@ -34,6 +34,7 @@ fn the_first_table_has_every_operation() {
     let operations = [
         "network::open",
         "reach::reach",
+        "count::count",
         "order::order",
         "cost::cost",
         "charge::charge",

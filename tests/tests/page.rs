@@ -4,10 +4,12 @@
 use planner_tests::damage::damaged;
 use planner_tests::draw;
 use planner_tests::ffi::{self, SHORT_ANSWER};
-use planner_tests::file::{network_a, Network, Row, BARRED, MUST, OPEN};
+use planner_tests::file::{network_a, Network, BARRED, MUST, OPEN};
 use planner_tests::lent::Lent;
 use planner_tests::operations::{self, Listed};
+use planner_tests::pages;
 use planner_tests::rng::Rng;
+use planner_tests::shapes::{self, complete, petersen, with_rows};
 use planner_tests::trees;
 
 /// One call: the file, a page of so many places, the start, and an answer of so many places. Returns the code that it
@@ -38,70 +40,13 @@ fn hold(
     (expected, trees)
 }
 
-/// A network of added costs 0 with these rows.
-fn with_rows(n: u8, pairs: &[[u8; 2]]) -> Network {
-    let row = |&ends: &[u8; 2]| Row::new(ends, 0, vec![0]);
-    Network::new(n, vec![0], pairs.iter().map(row).collect())
-}
-
-fn complete(n: u8) -> Network {
-    let pairs: Vec<[u8; 2]> = (1..=n)
-        .flat_map(|a| (a + 1..=n).map(move |b| [a, b]))
-        .collect();
-    with_rows(n, &pairs)
-}
-
-/// Two rings of five, the inner one by every second node, and a spoke from each node to its own.
-fn petersen() -> Network {
-    let mut pairs = Vec::new();
-    for i in 0..5 {
-        pairs.push([i + 1, (i + 1) % 5 + 1]);
-        pairs.push([i + 6, (i + 2) % 5 + 6]);
-        pairs.push([i + 1, i + 6]);
-    }
-    with_rows(10, &pairs)
-}
-
-/// A ring of n - 1 nodes, each with a row to node 1.
-fn wheel(n: u8) -> Network {
-    let mut pairs = Vec::new();
-    for node in 2..=n {
-        pairs.push([1, node]);
-        pairs.push([node, if node == n { 2 } else { node + 1 }]);
-    }
-    with_rows(n, &pairs)
-}
-
-/// Two lines of n / 2 nodes with a rung from each node to its own.
-fn ladder(n: u8) -> Network {
-    let half = n / 2;
-    let mut pairs = Vec::new();
-    for node in 1..=half {
-        pairs.push([node, node + half]);
-        if node < half {
-            pairs.push([node, node + 1]);
-            pairs.push([node + half, node + half + 1]);
-        }
-    }
-    with_rows(n, &pairs)
-}
-
-/// The whole list through pages of so many trees, the last ones read back from the pages.
+/// The whole list through pages of so many trees.
 fn listed(network: &Network, trees_a_page: usize) -> Vec<Vec<u16>> {
-    let file = network.encode();
-    let width = network.width();
-    let mut page = vec![0; trees_a_page * width];
-    let mut list: Vec<Vec<u16>> = Vec::new();
-    loop {
-        let start = list.last().cloned().unwrap_or_default();
-        let mut answer = [0; 2];
-        assert_eq!(ffi::page(&file, &mut page, &start, &mut answer), 0);
-        let [count, more] = answer.map(|value| value as usize);
-        list.extend(page.chunks(width).take(count).map(<[u16]>::to_vec));
-        if more == 0 {
-            return list;
-        }
-    }
+    let mut list = Vec::new();
+    pages::each(network, trees_a_page, &mut |page| {
+        list.extend(page.chunks(network.width()).map(<[u16]>::to_vec));
+    });
+    list
 }
 
 #[test]
@@ -119,18 +64,9 @@ fn network_a_of_document_01() {
     assert_eq!((page, answer), ([7; 2], [0, 0]));
 }
 
-/// The counts of document 004 (n to the power n - 2) and document 003.
 #[test]
 fn known_counts() {
-    for (name, network, count) in [
-        ("complete graph of 4 nodes", complete(4), 16),
-        ("complete graph of 5 nodes", complete(5), 125),
-        ("complete graph of 6 nodes", complete(6), 1_296),
-        ("complete graph of 7 nodes", complete(7), 16_807),
-        ("Petersen graph", petersen(), 2_000),
-        ("wheel of 6 nodes", wheel(6), 121),
-        ("ladder of 8 nodes", ladder(8), 56),
-    ] {
+    for (name, network, count) in shapes::of_known_counts() {
         let list = trees::list(&network);
         assert_eq!(list.len(), count, "{name}");
         for trees_a_page in [1, 64, 20_000] {
