@@ -8,7 +8,7 @@ use planner_tests::file::Network;
 use planner_tests::rng::Rng;
 use planner_tests::shapes::{
     any_names, bridged, chained, complete, dense, grid, ladder, line, of_document_002, parted,
-    regular, renamed, with_rows,
+    regular, renamed,
 };
 use planner_tests::{counts, draw, ffi, operations, pages, study};
 
@@ -76,8 +76,9 @@ fn lines() -> Vec<Line> {
     }
     for n in [16, 20, 24, 28] {
         let last_answered = |seed| {
-            let none = with_rows(n, &[]).with_states(&[]);
-            let [answered, _] = draw::up_to_the_limit(&mut Rng::new(seed), none, 50);
+            let rng = &mut Rng::new(seed);
+            let joined = any_names(line(&vec![1; n - 1]).with_states(&[]), rng);
+            let [answered, _] = draw::up_to_the_limit(rng, joined, 50);
             answered
         };
         add(

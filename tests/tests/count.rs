@@ -524,13 +524,13 @@ fn large_networks() {
 #[test]
 fn rows_added_up_to_the_limit() {
     let mut seen = Seen::default();
-    for seed in 0..16 {
+    for seed in 0..60 {
         let rng = &mut Rng::new(seed);
-        // the larger ones take seconds
-        let n = if seed == 0 { 28 } else { rng.between(11, 12) };
-        let musts = with_rows(n as u8, &[[1, 2], [3, 4], [4, 5]]).with_states(&[MUST; 3]);
+        let n = rng.between(10, 32);
+        let joined = line(&vec![1; n - 1]).with_states(&[MUST, OPEN, MUST, MUST]);
+        let joined = any_names(joined, rng);
         let barred = rng.pick(&[5, 10, 50]);
-        let [answered, refused] = draw::up_to_the_limit(rng, musts, barred);
+        let [answered, refused] = draw::up_to_the_limit(rng, joined, barred);
         assert!(count(&answered).is_ok());
         assert_eq!(count(&refused), Err(TOO_MANY));
         let close = |network| {
@@ -540,8 +540,9 @@ fn rows_added_up_to_the_limit() {
         seen.note("answered, over a fourth of the limit", close(&answered));
         seen.note("refused, under four times the limit", close(&refused));
         seen.note("with barred rows", has(&answered, BARRED));
+        seen.note("over 20 nodes", n > 20);
     }
-    seen.enough(12);
+    seen.enough(20);
 }
 
 /// The rule of #112: a row is dropped, as if it were barred, or its ends are merged, as if it were a must row.
