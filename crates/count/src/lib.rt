@@ -1,18 +1,19 @@
 //! Count: how many trees the list has, without listing them. The rows become links between 32 nodes, which are counted by dropping and by merging.
 ghost use mathlib.Core.Path.{_≡_};
 ghost use Prim.Native.Nat.{min};
+ghost use Rattle.checks.specs.Checks.{answered};
 ghost use Rattle.counts.specs.Count.{countCall};
 ghost use Rattle.counts.specs.Matrix.{Agree, limit, matrixOf};
 ghost use Rattle.counts.specs.States.{empty, fillHeld, statesOf, weightOf};
 ghost use Rattle.counts.specs.Trees.{treeCount};
-ghost use Rattle.fields.specs.Fields.{stateIn};
-ghost use Rattle.network.specs.Answers.{openedOf};
+ghost use Rattle.fields.specs.Fields.{sizesIn, stateIn};
 ghost use Rattle.network_file.proofs.Accepted.{Accepted};
-ghost use Rattle.network_file.specs.File.{networkOf, sizesOf};
+ghost use Rattle.network_file.specs.File.{networkOf, openOf, sizesOf};
 ghost use Rattle.operations.specs.Operations.{graphIn};
 ghost use Rattle.weights.specs.Weights.{weightIn};
-ghost use Rattle.count.specs.Answers.{countedOf, refusedBy};
+ghost use Rattle.count.specs.Answers.{countedOf};
 use counted::Links;
+use fields::Header;
 use fields::State;
 use network::Opened;
 use weights::Weight;
@@ -76,24 +77,11 @@ fn trees_of(file: &[u8], n: usize, m: usize) -> u32
     counted::counted(dropped, merged, n)
 }
 
-// A refusal of Open as one of Count; only a refusal is asked.
-fn refused(opened: Opened) -> CountAnswer
-    ensures { λ r. ⌜ countedOf r ≡ refusedBy (openedOf opened) ⌝ }
-{
-    match opened {
-        Opened::Header(_) => CountAnswer::Refused(0),
-        Opened::Refused(number) => CountAnswer::Refused(number),
-    }
-}
-
-/// Count: how many trees the list has; refused by 25 above 4,000,000,000.
-pub fn count(file: &[u8]) -> CountAnswer
+// Count of a file that passes its checks.
+fn accepted_count(file: &[u8], header: Header) -> CountAnswer
+    requires { ⌜ openOf (now file) ≡ answered (sizesIn header) ⌝ }
     ensures { λ r. ⌜ countedOf r ≡ countCall (now (file .entry)) ⌝ }
 {
-    let opened = network::open(file);
-    let Opened::Header(header) = opened else {
-        return refused(opened);
-    };
     // without a tree nothing is counted: a network in two parts would be searched to its end
     let listed = listed::listed(file);
     let Opened::Header(_) = listed else {
@@ -104,4 +92,15 @@ pub fn count(file: &[u8]) -> CountAnswer
         return CountAnswer::Refused(25);
     }
     CountAnswer::Trees(trees)
+}
+
+/// Count: how many trees the list has; refused by 25 above 4,000,000,000.
+pub fn count(file: &[u8]) -> CountAnswer
+    ensures { λ r. ⌜ countedOf r ≡ countCall (now (file .entry)) ⌝ }
+{
+    let opened = network::open(file);
+    match opened {
+        Opened::Header(header) => accepted_count(file, header),
+        Opened::Refused(number) => CountAnswer::Refused(number),
+    }
 }
