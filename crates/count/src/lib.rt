@@ -12,7 +12,6 @@ ghost use Rattle.network_file.specs.File.{networkOf, openOf, sizesOf};
 ghost use Rattle.operations.specs.Operations.{graphIn};
 ghost use Rattle.weights.specs.Weights.{weightIn};
 ghost use Rattle.count.specs.Answers.{countedOf};
-use counted::Links;
 use fields::Header;
 use fields::State;
 use network::Opened;
@@ -22,6 +21,12 @@ use weights::Weight;
 pub enum CountAnswer {
     Trees(u32),
     Refused(u8),
+}
+
+/// The weights of the links between 32 nodes: that of nodes a > b stands at a * 32 + b.
+pub struct Links {
+    pub dropped: [u32; 1024],
+    pub merged: [u32; 1024],
 }
 
 // The weight of a row: an open row is dropped or merged, a must row only merged, a barred row only dropped.

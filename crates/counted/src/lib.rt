@@ -1,6 +1,7 @@
 //! Counting by dropping and by merging: the count of a network whose links' weights stand in two arrays, held at the limit.
 //! The last node is taken away: merged along each of its links in turn, which is then dropped, until one or two are left.
-//! The functions work on a level: the first 1,024 places of two slices. Before a node is merged the level is copied to the next one, the 1,024 places behind it.
+//! The functions work on a level: the first 1,024 places of two slices, where the weight of nodes a > b stands at a * 32 + b.
+//! Before a node is merged the level is copied to the next one, the 1,024 places behind it.
 ghost use mathlib.Core.Path.{_≡_};
 ghost use Prim.Native.Nat.{_*_, _+_, _<_, _≤_, min, suc};
 ghost use lib.ListN.{getD, length};
@@ -8,12 +9,6 @@ ghost use Rattle.counts.specs.Counting.{behind};
 ghost use Rattle.counts.specs.Matrix.{Agree, addHeld, held, heldTotal, limit, matrixOf, moveHeld};
 ghost use Rattle.counted.specs.Counted.{Clear, Clearing, Copied, FirstLink, LevelKept};
 use weights::Weight;
-
-/// The weights of the links between 32 nodes: that of nodes a > b stands at a * 32 + b.
-pub struct Links {
-    pub dropped: [u32; 1024],
-    pub merged: [u32; 1024],
-}
 
 // The links of v that cannot be merged dropped; the factor with these.
 fn cleared(dropped: &mut [u32], merged: &[u32], v: usize, f: u32) -> u32

@@ -74,6 +74,6 @@ unfoldable pub heldTotal : ℕ → ℕ → ℕ → Matrix → ℕ → ℕ
 unfolding total
 heldTotal L so f w k = min L (so + f * total w k)
 
--- the matrix that two arrays of 32 × 32 places hold
+-- the matrix that the first 32 × 32 places of two arrays hold
 abbrev pub matrixOf : List ℕ → List ℕ → Matrix
 matrixOf ds ms a b = weigh (getD ds (a * 32 + b) 0) (getD ms (a * 32 + b) 0)

@@ -22,13 +22,11 @@ pub record Arrays : Type 0 where
   pub dropped : List ℕ
   pub merged : List ℕ
 
--- the weight at a place replaced
-abbrev pub stored : List ℕ → List ℕ → ℕ → counting.Weight → Arrays
-stored ds ms at p = record { dropped = set ds at (p .dropped); merged = set ms at (p .merged) }
-
 -- a link added beside what stands at a place
 abbrev pub besideAt : List ℕ → List ℕ → ℕ → counting.Weight → Arrays
-besideAt ds ms at p = stored ds ms at (held limit (counting.beside (counting.weigh (getD ds at 0) (getD ms at 0)) p))
+besideAt ds ms at p =
+    let both = held limit (counting.beside (counting.weigh (getD ds at 0) (getD ms at 0)) p) in
+    record { dropped = set ds at (both .dropped); merged = set ms at (both .merged) }
 
 -- a link between two nodes added, where both arrays have its place; else they stay as they were
 unfoldable pub addTo : List ℕ → List ℕ → ℕ → ℕ → counting.Weight → Arrays
