@@ -1,5 +1,5 @@
 -- The front of a list of vectors: it has the vectors that none of the list dominates (`front-members`), ascending (`front-ascending`),
--- and each vector of the list equals or is dominated by one of them (`undominated-meets`, `front-meets`).
+-- and each vector of the list equals or is dominated by one of them (`undominated-meets`, `front-meets`). The members decide it (`front-same`).
 use mathlib.Core.Path.{_∙_, _≡_, ap, refl, subst, sym}
 use mathlib.Core.Logic.{_↔_, _⊎_, inl, inr, ⊎-elim}
 use mathlib.Core.Bool.{not}
@@ -9,8 +9,8 @@ use lib.Dec.{T, T-not, not-T}
 use lib.ListN.{length}
 use Rattle.lists.specs.Lists.{any, filterB, same}
 use Rattle.lists.proofs.Distinct.{Distinct}
-use Rattle.lists.proofs.Members.{_∈_, any-in, any-out, filter-in, filter-out, same-in, same-out, snoc-out}
-use Rattle.lists.proofs.Orders.{Ascending, sort-ascending, sort-in, sort-out}
+use Rattle.lists.proofs.Members.{_∈_, _⊆_, any-in, any-out, filter-in, filter-out, same-in, same-out, snoc-out}
+use Rattle.lists.proofs.Orders.{Ascending, ascending-unique, sort-ascending, sort-in, sort-out}
 use Rattle.lists.proofs.Tests.{decide, pick-elim}
 use Rattle.costs.specs.Costs.{dominates, frontOf, noneLarger, once, vectorLess}
 use Rattle.costs.proofs.Vectors.{dominates-irrefl, dominates-noneLarger, dominates-trans, noneLarger-refl, vector-order}
@@ -143,6 +143,13 @@ unfolding frontOf
 front-ascending vs =
     sort-ascending vector-order (once (filterB (λ v. not (any (λ u. dominates u v) vs)) vs)) (λ x i. tt)
     (once-distinct (filterB (λ v. not (any (λ u. dominates u v) vs)) vs))
+
+-- lists with the same members have the same front
+pub front-same : (vs ws : List (List ℕ)) → vs ⊆ ws → ws ⊆ vs → frontOf vs ≡ frontOf ws
+front-same vs ws s t = ascending-unique vector-order (frontOf vs) (frontOf ws) (front-ascending vs) (front-ascending ws) (part vs ws s t) (part ws vs t s)
+  where
+    part : (vs ws : List (List ℕ)) → vs ⊆ ws → ws ⊆ vs → frontOf vs ⊆ frontOf ws
+    part vs ws s t v m = let (i, u) = front-out vs m in front-in ws (s v i) (λ x j. u x (t x j))
 
 -- every vector of the list is met by a member of the front
 pub front-meets : (k : ℕ) (vs : List (List ℕ)) → Sized k vs → (t : List ℕ) → t ∈ vs → (f : List ℕ) × (f ∈ frontOf vs) × Meets f t

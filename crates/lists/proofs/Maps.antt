@@ -1,4 +1,5 @@
--- `map` goes through the functions of lists: what is done by a key of the entries is done on the keys. Maps there and back (`map-back`).
+-- `map` goes through the functions of lists: what is done by a key of the entries is done on the keys. Two maps that agree on the members (`map-same`), and
+-- maps there and back (`map-back`).
 use mathlib.Core.Path.{_∙_, _≡_, ap, ap₂, refl}
 use mathlib.Core.Bool.{Bool, false, true}
 use mathlib.Core.List.{List, [], _∷_, map, List·Memᴰ·head as here, List·Memᴰ·tail as there}
@@ -53,6 +54,11 @@ module _ {A B : Type 0} (f : A → B) where
   map-insert less a (b ∷ l) =
       map-pick (less (f b) (f a)) (b ∷ insert (λ x y. less (f x) (f y)) a l) (a ∷ b ∷ l)
       ∙ ap (λ (k : List B). pick (less (f b) (f a)) (f b ∷ k) (f a ∷ f b ∷ map f l)) (map-insert less a l)
+
+  -- two maps that agree on the members
+  pub map-same : (h : A → B) (l : List A) → ((a : A) → a ∈ l → f a ≡ h a) → map f l ≡ map h l
+  map-same h [] e = refl
+  map-same h (a ∷ l) e = ap₂ (λ (x : B) (m : List B). x ∷ m) (e a (here refl)) (map-same h l (λ b m. e b (there m)))
 
   pub map-back : (h : B → A) (l : List B) → ((b : B) → b ∈ l → f (h b) ≡ b) → map f (map h l) ≡ l
   map-back h [] e = refl

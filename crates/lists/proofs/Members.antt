@@ -26,6 +26,11 @@ module _ {A : Type 0} where
   pub mem-elim : (P : A → Type 0) {a b : A} {l : List A} → a ∈ b ∷ l → P b → (a ∈ l → P a) → P a
   mem-elim P {a} {b} m first later = ⊎-elim (λ (e : a ≡ b). subst P (sym e) first) later (mem-cases m)
 
+  -- what stands before a member and behind it
+  pub mem-stands : {a : A} {l : List A} → a ∈ l → (before : List A) × (behind : List A) × (l ≡ before ++ a ∷ behind)
+  mem-stands (here {xs = l} e) = ([], l, ap (λ (x : A). x ∷ l) (sym e))
+  mem-stands (there {x} m) = let (before, behind, e) = mem-stands m in (x ∷ before, behind, ap (λ (rest : List A). x ∷ rest) e)
+
   pub nil-⊆ : (l : List A) → [] ⊆ l
   nil-⊆ l a m = absurd (mem-nil m)
 

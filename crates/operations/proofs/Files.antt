@@ -1,7 +1,7 @@
 -- The graph of an accepted file: it is well formed (`formed`), and has as many nodes as the file says (`node-count`).
 use mathlib.Core.Path.{_≡_}
 use mathlib.Core.List.{List}
-use Prim.Native.Nat.{_<_, ℕ}
+use Prim.Native.Nat.{_<_, pred, ℕ}
 use native.Mathlib.Omega.{arith}
 use lib.ListN.{length}
 use Rattle.lists.proofs.Ranges.{range-length}
@@ -33,6 +33,6 @@ module _ (f : List ℕ) (a : Accepted f) where
   pub layouts-open-in : Part (openIn f) (layoutsIn f)
   layouts-open-in = layouts-listed (networkOf f) formed
 
-  -- there is a node besides the plant
-  pub several : 1 < length (graphIn f .nodes)
-  several = omega (arith, node-count f, a .nodes-low)
+  -- there is a node besides the plant, so a tree has a row
+  pub wide : 0 < pred (length (graphIn f .nodes))
+  wide = omega (arith, node-count f, a .nodes-low)

@@ -4,7 +4,7 @@ use mathlib.Core.Path.{_∙_, _≡_, ap, refl, subst, sym}
 use mathlib.Core.Bool.{true}
 use mathlib.Core.Option.{Option·none-ne-some, Option·some-injective, none, some}
 use mathlib.Core.List.{List, [], _∷_, List·Memᴰ·head as here, List·Memᴰ·tail as there}
-use Prim.Native.Nat.{_/_, _<_, _≤_, pred, suc, zero, ℕ}
+use Prim.Native.Nat.{_/_, _<_, _≤_, suc, zero, ℕ}
 use native.Mathlib.Nat.{le-div-iff-mul-le}
 use native.Mathlib.Omega.{arith}
 use lib.Dec.{T, leb}
@@ -34,7 +34,7 @@ use Rattle.network_file.proofs.Accepted.{Accepted, accepted}
 use Rattle.pages.specs.Pages.{behind, lastOf, pageCount, restAfter}
 use Rattle.pages.proofs.Pages.{behind-drop}
 use Rattle.operations.specs.Operations.{Paged, check, drawnChecks, graphIn, layoutsIn, pageCall, pageChecks, someTree, startChecks, treeChecks}
-use Rattle.operations.proofs.Files.{formed, node-count, several}
+use Rattle.operations.proofs.Files.{formed, node-count, wide}
 
 -- A spanning tree has no cycle: its rows are a forest.
 pub no-cycle : (f : List ℕ) → Accepted f → (rows : List ℕ) → T (isTree (graphIn f) rows) → Forest (graphIn f) rows
@@ -61,9 +61,9 @@ none-behind L p once m h = let (i, e) = mem-at m in last-at L i p e (sym (behind
 
 -- a page with room for a tree takes none only if none is left
 none-left : (w : ℕ) (page : List ℕ) (rest : List (List ℕ)) → 0 < w → w ≤ length page → pageCount w page rest ≡ 0 → rest ≡ []
-none-left w page [] wide room z = refl
-none-left w page (p ∷ rest) wide room z =
-    let one : 1 ≤ length page / w = le-div-iff-mul-le {k = w} {x = 1} {y = length page} wide .1 (omega arith) in absurd (omega arith)
+none-left w page [] pos room z = refl
+none-left w page (p ∷ rest) pos room z =
+    let one : 1 ≤ length page / w = le-div-iff-mul-le {k = w} {x = 1} {y = length page} pos .1 (omega arith) in absurd (omega arith)
 
 -- the start of a call that is met is empty or a tree of the list
 start-listed : (w : Network) → WellFormed (graphOf w) → (r : ℕ) (rs : List ℕ) → firstUnmet (startChecks w (r ∷ rs)) ≡ none → (r ∷ rs) ∈ layouts w
@@ -91,8 +91,7 @@ module _ (f page : List ℕ) where
       let a = accepted f ok in
       let met = met-all (behindFile start) .0 h in
       let room = leb-true (width g) (length page) (met (check 11 (leb (width g) (length page))) (there (here refl))) in
-      let wide : 0 < pred (length (graphIn f .nodes)) = omega (arith, several f a) in
-      go start (λ c m. met c (there (there m))) (none-left (width g) page (restAfter L start) wide room z)
+      go start (λ c m. met c (there (there m))) (none-left (width g) page (restAfter L start) (wide f a) room z)
     where
       tree : T (someTree L)
       tree = T-true _ .1 (met-all (behindFile start) .0 h (check 12 (someTree L)) (here refl))

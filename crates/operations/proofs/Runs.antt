@@ -5,7 +5,7 @@ use mathlib.Core.Bool.{Bool, false, true}
 use mathlib.Core.Option.{Option, none, some}
 use mathlib.Core.Logic.{_↔_, ⊎-elim}
 use mathlib.Core.List.{List, [], _++_, _∷_, List·Memᴰ·cases-cons as mem-cases, List·Memᴰ·not-nil as mem-nil}
-use Prim.Native.Nat.{_+_, _/_, _<_, _≤_, min, pred, suc, zero, ℕ}
+use Prim.Native.Nat.{_+_, _/_, _<_, _≤_, min, suc, zero, ℕ}
 use native.Mathlib.Nat.{add-assoc, add-zero, min-zero, zero-add}
 use native.Mathlib.Omega.{arith}
 use lib.Dec.{T, eqb, leb, ltb, lt→ltb}
@@ -32,7 +32,7 @@ use Rattle.pages.specs.Pages.{Answer, answer, call, lastOf, markOf, readBack, r
 use Rattle.pages.proofs.Pages.{lastOf-at, markFor, markFor-right, step}
 use Rattle.operations.specs.Operations.{Paged, check, drawnChecks, graphIn, layoutsIn, pageCall, pageChecks, someTree, startChecks, treeChecks}
 use Rattle.operations.specs.Runs.{Call, adds, runFrom, runOf}
-use Rattle.operations.proofs.Files.{formed, several}
+use Rattle.operations.proofs.Files.{formed, wide}
 
 -- A tree of the list as a start
 
@@ -139,9 +139,6 @@ module _ (f : List ℕ) (ok : firstUnmet (fileChecks f) ≡ none) (tree : T (som
   abbrev upTo : ℕ → List (List ℕ)
   upTo s = take (min (length L) s) L
 
-  wide : 0 < pred (length (graphIn f .nodes))
-  wide = omega (arith, several f (accepted f ok))
-
   abbrev ended-at : ℕ → List ℕ → Ended Paged (List ℕ)
   ended-at s page = pageCall f page (lastOf (upTo s))
 
@@ -151,7 +148,7 @@ module _ (f : List ℕ) (ok : firstUnmet (fileChecks f) ≡ none) (tree : T (som
   claim-from s [] = (rw add-zero refl, λ c m. absurd (mem-nil m))
   claim-from s (page ∷ pages) =
       let s′ = s + length page / w in
-      let (e, m) = step w L wide (part-distinct (layouts-part net)) (part-length (layouts-part net)) s page (ltb (length page) w) refl in
+      let (e, m) = step w L (wide f (accepted f ok)) (part-distinct (layouts-part net)) (part-length (layouts-part net)) s page (ltb (length page) w) refl in
       let a = call w L (lastOf (upTo s)) page in
       let r : ended-at s page ≡ callIn page a = page-call (min (length L) s) (omega arith) page in
       let now : upTo s ++ adds w (ended-at s page .outcome) (ended-at s page .buffers) ≡ upTo s′ =

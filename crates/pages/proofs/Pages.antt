@@ -6,18 +6,18 @@ use mathlib.Core.Bool.{Bool, false, true}
 use mathlib.Core.Option.{Option, Option·none-ne-some, Option·some-injective, Option·some-ne-none, none, some}
 use mathlib.Core.List.{List, [], _++_, _∷_, append-assoc, append-nil, List·Memᴰ·head as here, map, List·Memᴰ·cases-cons as mem-cases, Memᴰ·cast as mem-cast, List·Memᴰ·not-nil as mem-nil, List·Memᴰ·tail as there}
 use Prim.Native.Nat.{_*_, _+_, _/_, _<_, _≤_, min, suc, zero, ℕ}
-use native.Mathlib.Nat.{add-assoc, add-zero, div-eq-of-lt, div-mul-le-self, le-trans, min-zero, mul-le-mul-right, suc-mul, zero-add, zero-mul}
+use native.Mathlib.Nat.{add-assoc, add-zero, div-eq-of-lt, div-mul-le-self, le-div-iff-mul-le, le-trans, min-zero, mul-le-mul-right, suc-mul, zero-add, zero-mul}
 use native.Mathlib.Omega.{arith}
-use lib.Dec.{T, ltb, ltb→lt, lt→ltb}
+use lib.Dec.{T, leb, leb→le, le→leb, ltb, ltb→lt, lt→ltb}
 use lib.ListN.{drop, getD, getElem?, length, length-append, length-drop, length-take, take}
 use lib.Seq.{drop-at, drop-drop, take-add, take-at}
 use borrow.Author.Tests.{ltb-true}
-use Rattle.lists.specs.Lists.{pick, same, sum}
+use Rattle.lists.specs.Lists.{both, pick, same, sum}
 use Rattle.lists.proofs.Ascending.{at-mem}
 use Rattle.lists.proofs.Distinct.{Distinct}
 use Rattle.lists.proofs.Members.{_∈_, drop-out, same-in, same-out, take-out}
-use Rattle.lists.proofs.Tests.{T-false, T-same, T-true, pick-elim}
-use Rattle.pages.specs.Pages.{Mark, answer, behind, call, flat, lastOf, markOf, moreAfter, pageAfter, pageCount, pieces, readBack, restAfter, room, run}
+use Rattle.lists.proofs.Tests.{T-both, T-false, T-same, T-true, pick-elim}
+use Rattle.pages.specs.Pages.{Mark, answer, behind, call, capacity, flat, lastOf, markOf, moreAfter, pageAfter, pageCount, pieces, readBack, restAfter, room, run}
 
 -- what stands behind the tree at place i is the list from place i + 1 on
 pub behind-drop : (L : List (List ℕ)) (i : ℕ) (p : List ℕ) → Distinct L → getElem? L i ≡ some p → behind p L ≡ drop (suc i) L
@@ -63,6 +63,22 @@ length-flat w (p ∷ l) long = omega (arith, length-append p (flat l), long p (h
 -- as many rows of w places as the quotient says end within a page or a table
 pub rows-end : (n w len : ℕ) → n ≤ len / w → n * w ≤ len
 rows-end n w len h = le-trans (mul-le-mul-right w h) (div-mul-le-self len w)
+
+-- both tables have room for a row exactly if the capacity is not 0
+pub capacity-some : (k w : ℕ) (costs witnesses : List ℕ) → 0 < k → 0 < w → both (leb k (length costs)) (leb w (length witnesses)) ≡ ltb 0 (capacity k w costs witnesses)
+unfolding capacity
+capacity-some k w costs witnesses pk pw = T-same (both (leb k (length costs)) (leb w (length witnesses))) (ltb 0 (min (length costs / k) (length witnesses / w)))
+    (λ t.
+    let (x, y) = T-both (leb k (length costs)) (leb w (length witnesses)) .0 t in
+    let c : 1 ≤ length costs / k = row pk .1 (leb→le k (length costs) x) in
+    let d : 1 ≤ length witnesses / w = row pw .1 (leb→le w (length witnesses) y) in
+    lt→ltb 0 (min (length costs / k) (length witnesses / w)) (omega arith))
+    (λ t.
+    let h = ltb→lt 0 (min (length costs / k) (length witnesses / w)) t in
+    T-both (leb k (length costs)) (leb w (length witnesses)) .1 (le→leb k (length costs) (row pk .0 (omega arith)), le→leb w (length witnesses) (row pw .0 (omega arith))))
+  where
+    row : {k len : ℕ} → 0 < k → (1 ≤ len / k) ↔ (k ≤ len)
+    row {k} {len} p = let e = le-div-iff-mul-le {k = k} {x = 1} {y = len} p in (λ h. omega (arith, e .0 h), λ h. e .1 (omega arith))
 
 -- a call leaves the page as long as it was
 pub length-pageAfter : (w : ℕ) (page : List ℕ) (rest : List (List ℕ)) → ((p : List ℕ) → p ∈ rest → length p ≡ w)

@@ -13,7 +13,7 @@ use lib.ListN.{getD, getElem?, length, length-map, take}
 use lib.Seq.{getD-take, length-take-le}
 use borrow.Author.Tests.{le-ltb, lt-ltb}
 use Rattle.lists.specs.Lists.{both, pick, range, sum}
-use Rattle.lists.proofs.Maps.{map-at}
+use Rattle.lists.proofs.Maps.{map-at, map-same}
 use Rattle.lists.proofs.Members.{_∈_, _⊆_, filter-both, filter-same}
 use Rattle.lists.proofs.Ranges.{getD-map-range, range-length}
 use Rattle.lists.proofs.Tests.{pick-true}
@@ -35,7 +35,7 @@ use Rattle.completions.proofs.Weights.{above-shares, heavy-none, total-parts}
 use Rattle.chosen.specs.Chosen.{isOn, rowsOn}
 use Rattle.chosen.proofs.Flags.{on-mem}
 use Rattle.tally.specs.Tally.{costIn, dayIn, kindCost, kindOf, leadIn, tableOf}
-use Rattle.tally.proofs.Tables.{cost-table, day-table, kind-at, kind-table, map-same, street-table}
+use Rattle.tally.proofs.Tables.{cost-table, day-table, kind-at, kind-table, street-table}
 use Rattle.weighing.specs.Weighing.{factorIn, factorsIn, rateIn, shareIn, sharersIn, weightIn, weightsIn}
 use Rattle.room.specs.Room.{leftIn, roomIn}
 

@@ -6,6 +6,7 @@ use native.Mathlib.Omega.{arith}
 use lib.Dec.{T}
 use lib.ListN.{take}
 use Rattle.lists.specs.Lists.{first, firstWith}
+use Rattle.lists.proofs.Maps.{map-same}
 use Rattle.lists.proofs.Members.{_∈_}
 use Rattle.checks.specs.Checks.{Outcome}
 use Rattle.graph.specs.Graph.{Graph, isTree}
@@ -33,7 +34,6 @@ use Rattle.forests.proofs.Forest.{Forest}
 use Rattle.chosen.specs.Chosen.{rowsOn}
 use Rattle.tally.specs.Tally.{tableOf}
 use Rattle.tally.proofs.Same.{same-cost}
-use Rattle.tally.proofs.Tables.{map-same}
 use Rattle.find.specs.Find.{Tables, graphIn}
 use Rattle.costing.specs.Costing.{costsIn, freeIn, kindsIn, leadsIn, mustsIn, tops}
 use Rattle.costing.proofs.Laws.{free-all, free-lie, must-rows, musts-all, musts-forest, same-graph, tabled, tables-in, under-top}

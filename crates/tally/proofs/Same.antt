@@ -11,6 +11,7 @@ use lib.ListN.{length, take}
 use borrow.Author.Tests.{eq-eqb, ne-eqb}
 use Rattle.lists.specs.Lists.{filterB, largest, sum}
 use Rattle.lists.proofs.Distinct.{Distinct}
+use Rattle.lists.proofs.Maps.{map-same}
 use Rattle.lists.proofs.Members.{_∈_, filter-none, filter-out, filter-same}
 use Rattle.lists.proofs.Tests.{T-same, eq→eqb}
 use Rattle.costs.specs.Costs.{byKinds, closingCost, costAt, costBy, costOf, inStreet, streetCost, streetsOf}
@@ -18,7 +19,7 @@ use Rattle.costs.specs.Network.{Kind, Network, added, closing, rowAt, worst}
 use Rattle.bounds.specs.Bounds.{excessAt}
 use Rattle.completions.proofs.Beside.{closing-beside}
 use Rattle.tally.specs.Tally.{closingIn, costIn, dayIn, kindOf, leadIn, tableOf}
-use Rattle.tally.proofs.Tables.{Rows, closing-table, cost-table, map-same}
+use Rattle.tally.proofs.Tables.{Rows, closing-table, cost-table}
 
 pub record Tabled (v : Network) (kinds : List ℕ) (k : ℕ) (costs leads : List ℕ) : Type 0 where
   pub named : map kindOf (take k kinds) ≡ v .kinds

@@ -14,7 +14,7 @@ use lib.Seq.{ext-getD, getD-take, length-take-le}
 use borrow.Author.Tests.{le-ltb, lt-ltb}
 use Rattle.lists.specs.Lists.{both, filterB, largest, pick, sum}
 use Rattle.lists.proofs.Ascending.{at-getD}
-use Rattle.lists.proofs.Maps.{map-at}
+use Rattle.lists.proofs.Maps.{map-at, map-same}
 use Rattle.lists.proofs.Members.{_∈_, filter-out, filter-same}
 use Rattle.lists.proofs.Ranges.{getD-map-range}
 use Rattle.costs.specs.Costs.{closingCost, costAt, costBy, costOf, streetCost, streetsOf}
@@ -25,11 +25,6 @@ use Rattle.bounds.specs.Bounds.{excessAt}
 use Rattle.completions.specs.Boxes.{inside}
 use Rattle.completions.proofs.Beside.{closing-beside}
 use Rattle.tally.specs.Tally.{addedIn, closingIn, componentIn, costIn, dayIn, daysIn, kindCost, kindOf, leadIn, tableOf, tableRow, vectorIn, worstIn}
-
--- two measures that agree on the members
-pub map-same : {A B : Type 0} (f h : A → B) (l : List A) → ((a : A) → a ∈ l → f a ≡ h a) → map f l ≡ map h l
-map-same f h [] e = refl
-map-same {A} {B} f h (a ∷ l) e = ap₂ (λ (x : B) (m : List B). x ∷ m) (e a (here refl)) (map-same f h l (λ b m. e b (there m)))
 
 -- every component is below its limit
 inside-all : (limits v : List ℕ) → length limits ≡ length v → ((c : ℕ) → c < length v → getD v c 0 < getD limits c 0) → inside limits v ≡ true

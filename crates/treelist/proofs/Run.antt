@@ -4,7 +4,7 @@ use mathlib.Core.Path.{_∙_, _≡_, ap, refl, sym}
 use mathlib.Core.Bool.{false, true}
 use mathlib.Core.Option.{Option·none-ne-some, Option·some-injective, none, some}
 use mathlib.Core.List.{List, [], _++_, _∷_, append-assoc, List·Memᴰ·head as here, List·Memᴰ·tail as there}
-use Prim.Native.Nat.{_*_, _+_, _-_, _/_, _<_, _^_, _≤_, min, pred, suc, zero, ℕ}
+use Prim.Native.Nat.{_*_, _+_, _-_, _/_, _<_, _^_, _≤_, min, suc, zero, ℕ}
 use native.Mathlib.Nat.{le-div-iff-mul-le, suc-mul, zero-mul}
 use native.Mathlib.Omega.{arith}
 use lib.Dec.{T}
@@ -21,7 +21,7 @@ use Rattle.network_file.proofs.Accepted.{accepted}
 use Rattle.pages.specs.Pages.{flat, lastOf, moreAfter, pageAfter, pageCount, restAfter}
 use Rattle.pages.proofs.Pages.{lastOf-at, length-pageAfter, restAfter-drop, rows-end}
 use Rattle.operations.specs.Operations.{Paged, graphIn, layoutsIn, pageCall, someTree}
-use Rattle.operations.proofs.Files.{layouts-in, several}
+use Rattle.operations.proofs.Files.{layouts-in, wide}
 use Rattle.operations.proofs.Runs.{page-call}
 
 -- tree i of a page that begins with trees of w rows
@@ -82,15 +82,12 @@ module _ (f : List ℕ) (ok : firstUnmet (fileChecks f) ≡ none) (tree : T (som
   part : Part (graphIn f) (layoutsIn f)
   part = layouts-in f (accepted f ok)
 
-  wide : 0 < pred (length (graphIn f .nodes))
-  wide = omega (arith, several f (accepted f ok))
-
   abbrev left : ℕ → List (List ℕ)
   left k = restAfter L (lastOf (take k L))
 
   -- after the first k trees the others are left
   left-is : (k : ℕ) → k ≤ length L → left k ≡ drop k L
-  left-is k h = restAfter-drop w L wide (part-distinct part) (part-length part) k h
+  left-is k h = restAfter-drop w L (wide f (accepted f ok)) (part-distinct part) (part-length part) k h
 
   -- the call after the first k trees
   abbrev answerOf : List ℕ → List (List ℕ) → Ended Paged (List ℕ)
@@ -150,7 +147,7 @@ module _ (f : List ℕ) (ok : firstUnmet (fileChecks f) ≡ none) (tree : T (som
         let more : true ≡ moreAfter w page rest = ap (λ (x : Ended Paged (List ℕ)). pagedIn (x .outcome) .more) (h ∙ called) in
         let after : page′ ≡ pageAfter w page rest = ap (λ (x : Ended Paged (List ℕ)). x .buffers) (h ∙ called) in
         let some-left = ltb-true (pageCount w page rest) (length rest) (sym more) in
-        let (some-written, within) = full-page w page rest wide room some-left in
+        let (some-written, within) = full-page w page rest (wide f (accepted f ok)) room some-left in
         let size = length-drop k L in
         let few : k + pageCount w page rest ≤ length L = omega (arith, run .few) in
         let last = last-written k page (run .few) some-written in

@@ -22,7 +22,7 @@ use Rattle.tables.specs.Tables.{Table}
 use Rattle.bounds.proofs.Missing.{rows-map}
 use Rattle.network_file.specs.File.{networkOf}
 use Rattle.operations.specs.Operations.{layoutsIn, openIn}
-use Rattle.operations.proofs.Files.{formed, layouts-open-in, several}
+use Rattle.operations.proofs.Files.{formed, layouts-open-in, wide}
 use Rattle.paths.specs.Path.{keysOf, plantOf, rowsIn}
 use Rattle.paths.specs.declared.Path.{Path}
 use Rattle.grow.specs.Musts.{firstOf}
@@ -125,7 +125,7 @@ module _ {f nb firsts seconds mustNb mustFirsts mustSeconds : List ℕ} {limit p
           let same : rowsIn path ≡ here = sym (rows-map (keysOf path)) in
           let after = offer ∙ ap (λ (p : List ℕ). offerOf known n costs witnesses rows s (key p) p) same in
           subst (λ (o : Offered). Held key k width rows (o .scratch) (o .costs) (o .witnesses) table′) (sym after)
-          (offer-held key k width rows long (turn .held) (omega (arith, l .accepted .criteria-low, l .criteria)) (omega (arith, several f (l .accepted), l .fitted .wide))
+          (offer-held key k width rows long (turn .held) (omega (arith, l .accepted .criteria-low, l .criteria)) (omega (arith, wide f (l .accepted), l .fitted .wide))
           (rw (turn .same-costs, ← add-one rows) (room .costs-fit)) (rw (turn .same-witnesses, ← add-one rows) (room .trees-fit)) here size known n (knownTrees (networkOf f) (layoutsIn f) n) (rows-known .fits)
           (rows-known .vectors ∙ sym (known-vectors (networkOf f) (layoutsIn f) n)))
 
