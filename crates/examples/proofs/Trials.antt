@@ -1,6 +1,6 @@
--- All trials of the table are right (`trials-right`): antt computes each.
+-- All trials of the table are right (`trials-right`): antt computes each; and network A's rows in another sequence are a rearrangement of them (`shuffled-a`).
 use mathlib.Core.Path.{refl}
-use Rattle.lists.specs.Lists.{all, any, filterB, first, insert, largest, member, range, same, sequences, sort, sum}
+use Rattle.lists.specs.Lists.{all, any, distinct, filterB, first, insert, largest, member, range, same, sequences, sort, sum}
 use Rattle.graph.specs.Graph.{isTree}
 use Rattle.graph.specs.Paths.{ascending, isMinimal, keysLess, placeOf, stepOf, stepsFrom, trees}
 use Rattle.checks.specs.Checks.{checked, ended, firstUnmet}
@@ -14,8 +14,14 @@ use Rattle.charges.specs.Charges.{borneBy, chargeCall, chargeChecks, chargesBy}
 use Rattle.counts.specs.Count.{countCall, countChecks}
 use Rattle.counts.specs.Trees.{countRows, treeCount, whole}
 use Rattle.offices.specs.Offices.{entryOf, officeCall, officeChecks, tablesFit}
-use Rattle.examples.specs.Trials.{AllRight, table}
+use Rattle.shuffles.specs.Shuffles.{Shuffled, partParallel}
+use Rattle.shuffles.proofs.Shuffles.{shuffled-by}
+use Rattle.examples.specs.Trials.{AllRight, fileA, numbersA, shuffledA, table}
 
 pub trials-right : AllRight table
-unfolding all range filterB first insert sort sequences same member sum largest placeOf stepOf stepsFrom ascending keysLess isMinimal isTree trees streetsOf costOf noneLarger someSmaller vectorLess caseAfter once frontOf treeWith frontTrees behind flat capacity firstUnmet checked ended networkOf fileChecks openOf reachedNodes wordOf reachCall treeChecks drawnChecks startChecks orderChecks orderCall costChecks costCall pageChecks pageCall frontOver frontChecks frontCall borneBy chargesBy chargeChecks chargeCall any beside filled pieces entryOf tablesFit officeChecks officeCall whole countRows treeCount countChecks countCall
-trials-right = (refl, (refl, (refl, (refl, (refl, (refl, (refl, (refl, (refl, (refl, (refl, (refl, (refl, (refl, (refl, (refl, (refl, (refl, (refl, (refl, (refl, (refl, (refl, (refl, (refl, (refl, (refl, (refl, (refl, (refl, (refl, (refl, (refl, (refl, (refl, (refl, (refl, (refl, (refl, (refl, (refl, (refl, (refl, (refl, (refl, (refl, (refl, (refl, (refl, (refl, (refl, (refl, (refl, (refl, (refl, (refl, (refl, (refl, (refl, (refl, (refl, (refl, (refl, (refl, (refl, (refl, (refl, (refl, (refl, (refl, (refl, (refl, (refl, (refl, (refl, (refl, (refl, tt)))))))))))))))))))))))))))))))))))))))))))))))))))))))))))))))))))))))))))))
+unfolding all range filterB first insert sort sequences same member sum largest placeOf stepOf stepsFrom ascending keysLess isMinimal isTree trees streetsOf costOf noneLarger someSmaller vectorLess caseAfter once frontOf treeWith frontTrees behind flat capacity firstUnmet checked ended networkOf fileChecks openOf reachedNodes wordOf reachCall treeChecks drawnChecks startChecks orderChecks orderCall costChecks costCall pageChecks pageCall frontOver frontChecks frontCall borneBy chargesBy chargeChecks chargeCall any beside filled pieces entryOf tablesFit officeChecks officeCall whole countRows treeCount countChecks countCall partParallel
+trials-right = (refl, (refl, (refl, (refl, (refl, (refl, (refl, (refl, (refl, (refl, (refl, (refl, (refl, (refl, (refl, (refl, (refl, (refl, (refl, (refl, (refl, (refl, (refl, (refl, (refl, (refl, (refl, (refl, (refl, (refl, (refl, (refl, (refl, (refl, (refl, (refl, (refl, (refl, (refl, (refl, (refl, (refl, (refl, (refl, (refl, (refl, (refl, (refl, (refl, (refl, (refl, (refl, (refl, (refl, (refl, (refl, (refl, (refl, (refl, (refl, (refl, (refl, (refl, (refl, (refl, (refl, (refl, (refl, (refl, (refl, (refl, (refl, (refl, (refl, (refl, (refl, (refl, (refl, (refl, (refl, (refl, (refl, (refl, (refl, tt))))))))))))))))))))))))))))))))))))))))))))))))))))))))))))))))))))))))))))))))))))
+
+pub shuffled-a : Shuffled (networkOf fileA) (networkOf shuffledA) numbersA
+unfolding all any distinct member networkOf
+shuffled-a = shuffled-by (networkOf fileA) (networkOf shuffledA) numbersA refl refl refl tt tt refl

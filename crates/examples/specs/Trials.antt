@@ -1,6 +1,6 @@
 -- Document 01's starred trials, as questions to the definitions of the operations, each with its answer, on network A's file; and trials
 -- of document 02's row states (#102) and first witness (#101) on files with the same ends, of streets closed once (#103) on network C's, of
--- comparison by cases (#105), of the connection charge (#109), of two offices in one table (#111), and of the count (#112).
+-- comparison by cases (#105), of the connection charge (#109), of two offices in one table (#111), of the count (#112), and of shuffled rows (#113).
 use mathlib.Core.Path.{_≡_}
 use mathlib.Core.Bool.{Bool, false, true}
 use mathlib.Core.List.{List, [], _∷_, map}
@@ -12,10 +12,11 @@ use Rattle.costs.specs.Cases.{Case, caseAfter, soFarBetter, soFarEqual, worseSo
 use Rattle.costs.specs.Costs.{dominates, front}
 use Rattle.costs.specs.Network.{Network}
 use Rattle.network_file.specs.File.{Sizes, networkOf, openOf}
-use Rattle.operations.specs.Operations.{FrontTables, Fronted, Paged, Reached, costCall, frontCall, layoutsIn, orderCall, pageCall, reachCall}
+use Rattle.operations.specs.Operations.{FrontTables, Fronted, Paged, Reached, costCall, frontCall, graphIn, layoutsIn, orderCall, pageCall, reachCall}
 use Rattle.charges.specs.Charges.{Charge, chargeCall, chargeOf, chargesBy}
 use Rattle.counts.specs.Count.{countCall}
 use Rattle.offices.specs.Offices.{Counts, Noted, officeCall}
+use Rattle.shuffles.specs.Shuffles.{partParallel, renamedPath}
 use Rattle.examples.specs.Examples.{A, B, C}
 
 -- the 59 bytes of network A's file: the sizes, the kinds, and a line for each row
@@ -27,6 +28,19 @@ fileA =
     ∷ 1 ∷ 3 ∷ 0 ∷ 0 ∷ 0 ∷ 0 ∷ 0 ∷ 5 ∷ 0 ∷ 0 ∷ 0 ∷ 5
     ∷ 2 ∷ 3 ∷ 0 ∷ 0 ∷ 0 ∷ 0 ∷ 0 ∷ 3 ∷ 0 ∷ 0 ∷ 0 ∷ 6
     ∷ []
+
+-- the same rows in another sequence: rows 3, 1, 0 and 2 of network A
+abbrev pub shuffledA : List ℕ
+shuffledA =
+    1 ∷ 0 ∷ 0 ∷ 0 ∷ 54 ∷ 3 ∷ 0 ∷ 4 ∷ 2 ∷ 0 ∷ 1
+    ∷ 2 ∷ 3 ∷ 0 ∷ 0 ∷ 0 ∷ 0 ∷ 0 ∷ 3 ∷ 0 ∷ 0 ∷ 0 ∷ 6
+    ∷ 1 ∷ 2 ∷ 0 ∷ 0 ∷ 0 ∷ 0 ∷ 0 ∷ 6 ∷ 0 ∷ 0 ∷ 0 ∷ 2
+    ∷ 1 ∷ 2 ∷ 0 ∷ 0 ∷ 0 ∷ 0 ∷ 0 ∷ 4 ∷ 0 ∷ 0 ∷ 0 ∷ 7
+    ∷ 1 ∷ 3 ∷ 0 ∷ 0 ∷ 0 ∷ 0 ∷ 0 ∷ 5 ∷ 0 ∷ 0 ∷ 0 ∷ 5
+    ∷ []
+
+abbrev pub numbersA : List ℕ
+numbersA = 3 ∷ 1 ∷ 0 ∷ 2 ∷ []
 
 -- the same rows in version 2, with a state byte in each after the street
 abbrev pub withStates : ℕ → ℕ → ℕ → ℕ → List ℕ
@@ -69,6 +83,10 @@ pub data Trial : Type 0 where
   network : List ℕ → Network → Trial
   list : List ℕ → List (List ℕ) → Trial
   fronts : List ℕ → List (List ℕ) → Trial
+  -- the list with its rows renamed by these numbers
+  renamedList : List ℕ → List ℕ → List (List ℕ) → Trial
+  -- whether two paths part first at parallel rows
+  parting : List ℕ → List ℕ → List ℕ → Bool → Trial
   reached : List ℕ → Outcome Reached → Trial
   counted : List ℕ → Outcome ℕ → Trial
   -- Order of these rows into a buffer of three places
@@ -97,6 +115,8 @@ Right (opened f o) = openOf f ≡ o
 Right (network f w) = networkOf f ≡ w
 Right (list f l) = layoutsIn f ≡ l
 Right (fronts f l) = front (networkOf f) ≡ l
+Right (renamedList f numbers l) = map (renamedPath numbers) (layoutsIn f) ≡ l
+Right (parting f p q b) = partParallel (graphIn f) p q ≡ b
 Right (reached f o) = reachCall f ≡ o
 Right (counted f o) = countCall f ≡ o
 Right (order f rows e) = orderCall f rows buffer ≡ e
@@ -243,4 +263,12 @@ table =
     ∷ counted (withStates 1 1 0 0) (answered 0)
     ∷ counted (withStates 2 2 0 2) (answered 0)
     ∷ counted [] (refused 1)
+    -- document 02, #113: the trees of network A, those with row 1 before those with row 0, which part first there; the same front
+    ∷ list shuffledA ((1 ∷ 3 ∷ []) ∷ (1 ∷ 0 ∷ []) ∷ (2 ∷ 3 ∷ []) ∷ (2 ∷ 0 ∷ []) ∷ (3 ∷ 0 ∷ []) ∷ [])
+    ∷ renamedList shuffledA numbersA ((1 ∷ 2 ∷ []) ∷ (1 ∷ 3 ∷ []) ∷ (0 ∷ 2 ∷ []) ∷ (0 ∷ 3 ∷ []) ∷ (2 ∷ 3 ∷ []) ∷ [])
+    ∷ parting fileA (0 ∷ 3 ∷ []) (1 ∷ 2 ∷ []) true
+    ∷ parting fileA (0 ∷ 2 ∷ []) (0 ∷ 3 ∷ []) false
+    ∷ parting fileA (0 ∷ 2 ∷ []) (2 ∷ 3 ∷ []) false
+    ∷ fronts shuffledA ((7 ∷ 7 ∷ []) ∷ (8 ∷ 6 ∷ []) ∷ (11 ∷ 5 ∷ []) ∷ [])
+    ∷ frontIn shuffledA (fronted 1 false (7 ∷ 7 ∷ 9 ∷ []) (2 ∷ 0 ∷ 9 ∷ []))
     ∷ []

@@ -1,0 +1,3 @@
+pub mod Renames
+pub mod Costs
+pub mod Shuffles
