@@ -1,8 +1,8 @@
 -- Demand 3, of the front: it has exactly the vectors of the network's trees that no tree's vector dominates (`front-is`); and Front with tables that have
--- room for a row (`front-claim`).
+-- room for a row (`front-claim`), which a call that is answered has (`front-answered`).
 use mathlib.Core.Path.{_∙_, _≡_, ap, refl, subst, sym}
 use mathlib.Core.Logic.{_↔_}
-use mathlib.Core.List.{List, [], Memᴰ·map as map-in, Memᴰ·of-map as map-out, List·Memᴰ·not-nil as mem-nil}
+use mathlib.Core.List.{List, [], _∷_, Memᴰ·map as map-in, Memᴰ·of-map as map-out, List·Memᴰ·head as here, List·Memᴰ·not-nil as mem-nil, List·Memᴰ·tail as there}
 use mathlib.Core.Option.{none}
 use Prim.Native.Nat.{_*_, _<_, _≤_, min, ℕ}
 use native.Mathlib.Omega.{arith}
@@ -17,9 +17,9 @@ use Rattle.lists.proofs.Orders.{ascending-distinct}
 use Rattle.lists.proofs.Tests.{T-both, T-true}
 use Rattle.graph.specs.Graph.{width}
 use Rattle.graph.proofs.Parts.{part-length}
-use Rattle.checks.specs.Checks.{Ended, answered, firstUnmet}
+use Rattle.checks.specs.Checks.{Check, Ended, answered, firstUnmet}
 use Rattle.checks.proofs.Checks.{firstUnmet-append, firstUnmet-met, met-all}
-use Rattle.checks.proofs.Ended.{ended-met}
+use Rattle.checks.proofs.Ended.{ended-answered, ended-met}
 use Rattle.costs.specs.Costs.{costOf, dominates, front, frontTrees, treeWith, vectors}
 use Rattle.costs.specs.Network.{Network}
 use Rattle.costs.proofs.Layouts.{layouts-part}
@@ -52,7 +52,7 @@ module _ (f : List ℕ) (ok : Passes f) where
   pub front-is : FrontIs f
   front-is = record {
     members = λ v. let m = front-members v (vectors net) in (
-      λ i. let (here, u) = m .0 i in (tree-vector v .0 here, λ rows t. u (costOf net rows) (tree-vector _ .1 (rows, t, refl))),
+      λ i. let (listed, u) = m .0 i in (tree-vector v .0 listed, λ rows t. u (costOf net rows) (tree-vector _ .1 (rows, t, refl))),
       λ (c, u). m .1 (tree-vector v .1 c, λ x i d. let (rows, t, e) = tree-vector x .0 i in u rows t (subst (λ (y : List ℕ). T (dominates y v)) (sym e) d)),
     );
     ascending = front-ascending (vectors net);
@@ -160,3 +160,16 @@ module _ (f : List ℕ) (ok : Passes f) (tree : T (someTree (layoutsIn f))) wher
       costs-rest = rw ends (rest-kept (sizesOf f .k) F costs front-sized (omega arith));
       witnesses-rest = rw ends (rest-kept (width (graphIn f)) W witnesses trees-sized (omega (arith, as-many)));
     }
+
+pub front-answered : (f : List ℕ) (ok : Passes f) (costs witnesses : List ℕ) (a : Fronted) → frontCall f costs witnesses .outcome ≡ answered a
+    → (c : FrontClaim f costs witnesses) × (c .answer ≡ a)
+unfolding frontCall frontChecks
+front-answered f ok costs witnesses a h =
+    let room : Check = check 11 (both (leb (sizesOf f .k) (length costs)) (leb (width (graphIn f)) (length witnesses))) in
+    let tree : Check = check 12 (someTree (layoutsIn f)) in
+    let met = ended-answered (frontChecks f costs witnesses) _ _ _ a h .0 in
+    let each = met-all (tree ∷ room ∷ []) .0 (sym (firstUnmet-append (fileChecks f) (tree ∷ room ∷ []) ok) ∙ met) in
+    let (wide, long) = T-both (leb (sizesOf f .k) (length costs)) (leb (width (graphIn f)) (length witnesses)) .0 (T-true _ .1 (each room (there (here refl)))) in
+    let c = front-claim f ok (T-true _ .1 (each tree (here refl))) costs witnesses (leb→le _ _ wide) (leb→le _ _ long) in
+    let e : answered (c .answer) ≡ answered a = sym (c .answers) ∙ h in
+    (c, cc)

@@ -3,4 +3,5 @@ pub mod Demands
 pub mod Fronts
 pub mod Pages
 pub mod Refusals
+pub mod Shuffles
 pub mod Trees

@@ -1,5 +1,5 @@
 -- The three demands on the library, said over the definitions that the contracts cite; `demand-1`, `demand-2` and `demand-3` of proofs/Demands.antt are
--- their proofs.
+-- their proofs. Beside them Shuffles.antt says what two files have in common whose rows stand in another sequence.
 --
 -- On every input an operation equals its definition: that is its contract. The demands speak of the definitions. (tests/tests/contracts.rs holds both
 -- tables to the contracts in src/.)
