@@ -60,7 +60,32 @@ Known v p = (r : ℕ) → r ∈ p → r < length (v .rows)
 pub layout-known : (v : Network) (p : List ℕ) → p ∈ layouts v → Known v p
 layout-known v p i r j = omega (arith, row-count v, trees-mem (graphOf v) p .0 (filter-out (keepsStates v) (trees (graphOf v)) i .0) .1 r j)
 
--- Keys, with their rows renamed
+-- Keys
+
+-- one key before both: the rest decides
+head-same : (k l : Key) → k ≡ l → (ks ls : List Key) → keysLess (k ∷ ks) (l ∷ ls) ≡ keysLess ks ls
+unfolding keysLess
+head-same k l e ks ls =
+    rw (T-false (keyLess k l) .0 (λ t. key-irrefl (keyLess-out k k (subst (λ (x : Key). T (keyLess k x)) (sym e) t))), T-true (sameKey k l) .0 (sameKey-in e)) refl
+
+-- rows that make steps of one place and one node are parallel
+parallel : (h : Graph) (entered : List ℕ) (r s : ℕ) (k l : Key) → stepOf h entered r ≡ some k → stepOf h entered s ≡ some l
+    → T (both (eqb (k .place) (l .place)) (eqb (k .node) (l .node))) → T (joins h r (firstEnd h s) (secondEnd h s))
+parallel h entered r s k l e f t =
+    let (a, i) = stepOf-out h entered r k e in
+    let (b, j) = stepOf-out h entered s l f in
+    let (same-place, same-node) = T-both (eqb (k .place) (l .place)) (eqb (k .node) (l .node)) .0 t in
+    let pivot : a .pivot ≡ b .pivot = place-injective entered (a .leaves) (b .leaves) (sym (a .stands) ∙ eqb→eq _ _ same-place ∙ b .stands) in
+    joins-in (ends r s (subst (λ (x : ℕ). Joins h x (a .pivot) (k .node)) i (a .joined))
+    (subst (λ (x : ℕ). Joins h x (a .pivot) (k .node)) j (rw (pivot, eqb→eq (k .node) (l .node) same-node) (b .joined))))
+  where
+    ends : (r s : ℕ) {u v : ℕ} → Joins h r u v → Joins h s u v → Joins h r (firstEnd h s) (secondEnd h s)
+    ends r s (forth a b) (forth c d) = forth (a ∙ sym c) (b ∙ sym d)
+    ends r s (forth a b) (back c d) = back (a ∙ sym d) (b ∙ sym c)
+    ends r s (back a b) (forth c d) = back (a ∙ sym d) (b ∙ sym c)
+    ends r s (back a b) (back c d) = forth (a ∙ sym c) (b ∙ sym d)
+
+-- Keys with their rows renamed
 
 module _ (ρ : ℕ → ℕ) where
   abbrev renameKey : Key → Key
@@ -84,12 +109,6 @@ module _ (ρ : ℕ → ℕ) where
       up (k ∷ []) = refl
       up (k ∷ l ∷ ks) = ap (both (follows k l)) (up (l ∷ ks))
 
-  -- one key before both: the rest decides
-  head-same : (k l : Key) → k ≡ l → (ks ls : List Key) → keysLess (k ∷ ks) (l ∷ ls) ≡ keysLess ks ls
-  unfolding keysLess
-  head-same k l e ks ls =
-      rw (T-false (keyLess k l) .0 (λ t. key-irrefl (keyLess-out k k (subst (λ (x : Key). T (keyLess k x)) (sym e) t))), T-true (sameKey k l) .0 (sameKey-in e)) refl
-
   -- keys that differ in place or node decide, whatever their rows are
   head-apart : (k l : Key) → ¬ T (both (eqb (k .place) (l .place)) (eqb (k .node) (l .node)))
       → (ks ls : List Key) → keysLess (renameKey k ∷ map renameKey ks) (renameKey l ∷ map renameKey ls) ≡ keysLess (k ∷ ks) (l ∷ ls)
@@ -103,44 +122,26 @@ module _ (ρ : ℕ → ℕ) where
       by false v f x y s t a b n = refl
 
   -- two paths that do not part first at parallel rows are compared alike with their rows renamed
-  module _ (h : Graph) where
-    -- rows that make steps of one place and one node are parallel
-    parallel : (entered : List ℕ) (r s : ℕ) (k l : Key) → stepOf h entered r ≡ some k → stepOf h entered s ≡ some l
-        → T (both (eqb (k .place) (l .place)) (eqb (k .node) (l .node))) → T (joins h r (firstEnd h s) (secondEnd h s))
-    parallel entered r s k l e f t =
-        let (a, i) = stepOf-out h entered r k e in
-        let (b, j) = stepOf-out h entered s l f in
-        let (same-place, same-node) = T-both (eqb (k .place) (l .place)) (eqb (k .node) (l .node)) .0 t in
-        let pivot : a .pivot ≡ b .pivot = place-injective entered (a .leaves) (b .leaves) (sym (a .stands) ∙ eqb→eq _ _ same-place ∙ b .stands) in
-        joins-in (ends r s (subst (λ (x : ℕ). Joins h x (a .pivot) (k .node)) i (a .joined))
-        (subst (λ (x : ℕ). Joins h x (a .pivot) (k .node)) j (rw (pivot, eqb→eq (k .node) (l .node) same-node) (b .joined))))
-      where
-        ends : (r s : ℕ) {u v : ℕ} → Joins h r u v → Joins h s u v → Joins h r (firstEnd h s) (secondEnd h s)
-        ends r s (forth a b) (forth c d) = forth (a ∙ sym c) (b ∙ sym d)
-        ends r s (forth a b) (back c d) = back (a ∙ sym d) (b ∙ sym c)
-        ends r s (back a b) (forth c d) = back (a ∙ sym d) (b ∙ sym c)
-        ends r s (back a b) (back c d) = forth (a ∙ sym c) (b ∙ sym d)
-
-    keys-same : (p q entered : List ℕ) (ks ls : List Key) → stepsFrom h entered p ≡ some ks → stepsFrom h entered q ≡ some ls → ¬ T (partParallel h p q)
-        → keysLess (map renameKey ks) (map renameKey ls) ≡ keysLess ks ls
-    unfolding partParallel keysLess
-    keys-same [] q entered ks [] e f n = rw (stepsFrom-nil h entered ks e) refl
-    keys-same [] q entered ks (l ∷ ls) e f n = rw (stepsFrom-nil h entered ks e) refl
-    keys-same (r ∷ p) [] entered [] ls e f n = rw (stepsFrom-nil h entered ls f) refl
-    keys-same (r ∷ p) [] entered (k ∷ ks) ls e f n = rw (stepsFrom-nil h entered ls f) refl
-    keys-same (r ∷ p) (s ∷ q) entered ks ls e f n =
-        let x = stepsFrom-cons h entered r p ks e in
-        let y = stepsFrom-cons h entered s q ls f in
-        rw (x .keys, y .keys) (elim (decide (eqb r s)) [
-          | inl t ↦
-              let one : x .key ≡ y .key = Option·some-injective (x .key) (y .key) (sym (x .made) ∙ ap (stepOf h entered) (eqb→eq r s t) ∙ y .made) in
-              head-same (renameKey (x .key)) (renameKey (y .key)) (ap renameKey one) (map renameKey (x .later)) (map renameKey (y .later))
-              ∙ keys-same p q (entered ++ (x .key .node ∷ [])) (x .later) (y .later) (x .rest)
-              (subst (λ (v : ℕ). stepsFrom h (entered ++ (v ∷ [])) q ≡ some (y .later)) (ap (λ (k : Key). k .node) (sym one)) (y .rest))
-              (λ u. n (rw (T-true (eqb r s) .0 t) u))
-              ∙ sym (head-same (x .key) (y .key) one (x .later) (y .later))
-          | inr d ↦ head-apart (x .key) (y .key) (λ t. n (rw (T-false (eqb r s) .0 d) (parallel entered r s (x .key) (y .key) (x .made) (y .made) t))) (x .later) (y .later)
-        ])
+  keys-same : (h : Graph) (p q entered : List ℕ) (ks ls : List Key) → stepsFrom h entered p ≡ some ks → stepsFrom h entered q ≡ some ls → ¬ T (partParallel h p q)
+      → keysLess (map renameKey ks) (map renameKey ls) ≡ keysLess ks ls
+  unfolding partParallel keysLess
+  keys-same h [] q entered ks [] e f n = rw (stepsFrom-nil h entered ks e) refl
+  keys-same h [] q entered ks (l ∷ ls) e f n = rw (stepsFrom-nil h entered ks e) refl
+  keys-same h (r ∷ p) [] entered [] ls e f n = rw (stepsFrom-nil h entered ls f) refl
+  keys-same h (r ∷ p) [] entered (k ∷ ks) ls e f n = rw (stepsFrom-nil h entered ls f) refl
+  keys-same h (r ∷ p) (s ∷ q) entered ks ls e f n =
+      let x = stepsFrom-cons h entered r p ks e in
+      let y = stepsFrom-cons h entered s q ls f in
+      rw (x .keys, y .keys) (elim (decide (eqb r s)) [
+        | inl t ↦
+            let one : x .key ≡ y .key = Option·some-injective (x .key) (y .key) (sym (x .made) ∙ ap (stepOf h entered) (eqb→eq r s t) ∙ y .made) in
+            head-same (renameKey (x .key)) (renameKey (y .key)) (ap renameKey one) (map renameKey (x .later)) (map renameKey (y .later))
+            ∙ keys-same h p q (entered ++ (x .key .node ∷ [])) (x .later) (y .later) (x .rest)
+            (subst (λ (v : ℕ). stepsFrom h (entered ++ (v ∷ [])) q ≡ some (y .later)) (ap (λ (k : Key). k .node) (sym one)) (y .rest))
+            (λ u. n (rw (T-true (eqb r s) .0 t) u))
+            ∙ sym (head-same (x .key) (y .key) one (x .later) (y .later))
+        | inr d ↦ head-apart (x .key) (y .key) (λ t. n (rw (T-false (eqb r s) .0 d) (parallel h entered r s (x .key) (y .key) (x .made) (y .made) t))) (x .later) (y .later)
+      ])
 
 -- Paths
 
