@@ -1,8 +1,9 @@
 //! What the tests of the proved library share: the calls, a generator of numbers, network files, what damages them,
-//! networks and drawn rows, networks of known shapes, lent buffers, the library's list by its pages, the contracts in src/ as
-//! text, and independent code for document 01 in plain Rust: `reading`, `trees`, `costs` and `operations`, for two offices in
-//! one table `offices`, and for the number of trees `counts`; and for larger networks the front by a walk (`walk`, `walked`)
-//! and by a search (`search`), and the networks of the study of that search (`study`).
+//! networks and drawn rows, networks of known shapes, lent buffers, the library's list by its pages, how often what is
+//! counted came, the contracts in src/ as text, and independent code for document 01 in plain Rust: `reading`, `trees`,
+//! `costs` and `operations`, for two offices in one table `offices`, and for the number of trees `counts`; and for larger
+//! networks the front by a walk (`walk`, `walked`) and by a search (`search`), and the networks of the study of that search
+//! (`study`).
 
 pub mod contracts;
 pub mod costs;
@@ -18,6 +19,7 @@ pub mod pages;
 pub mod reading;
 pub mod rng;
 pub mod search;
+pub mod seen;
 pub mod shapes;
 pub mod study;
 pub mod trees;

@@ -2,7 +2,6 @@
 //! seeded networks against their lists, by the library's pages and by the walk, and against a determinant. The answer and
 //! the file are compared whole after every call.
 
-use std::collections::BTreeMap;
 use std::thread;
 use std::time::{Duration, Instant};
 
@@ -15,6 +14,7 @@ use planner_tests::lent::Lent;
 use planner_tests::operations;
 use planner_tests::pages;
 use planner_tests::rng::Rng;
+use planner_tests::seen::Seen;
 use planner_tests::shapes::{
     any_names, apart, bridged, chained, complete, dense, grid, joined, ladder, line,
     of_document_002, of_known_counts, petersen, regular, renamed, ring, wheel, with_rows,
@@ -58,23 +58,6 @@ fn walked(network: &Network) -> u64 {
     let mut trees = 0;
     Graph::new(network).walk(&mut |_| trees += 1);
     trees
-}
-
-/// How often each thing that is counted came, so that a generator that misses something is seen.
-#[derive(Debug, Default)]
-struct Seen(BTreeMap<&'static str, usize>);
-
-impl Seen {
-    fn note(&mut self, what: &'static str, is: bool) {
-        *self.0.entry(what).or_default() += is as usize;
-    }
-
-    fn enough(&self, enough: usize) {
-        for (what, count) in &self.0 {
-            println!("{count:6} {what}");
-        }
-        assert!(self.0.values().all(|&count| count >= enough), "too few");
-    }
 }
 
 fn has(network: &Network, state: u8) -> bool {
