@@ -2,9 +2,10 @@
 //! networks and drawn rows, networks of known shapes, lent buffers, the library's list by its pages, how often what is
 //! counted came, the contracts in src/ as text, and independent code for document 01 in plain Rust: `reading`, `trees`,
 //! `costs` and `operations`, for two offices in one table `offices`, and for the number of trees `counts`; and for larger
-//! networks the front by a walk (`walk`, `walked`) and by a search (`search`), and the networks of the study of that search
-//! (`study`).
+//! networks the front by a walk (`walk`, `walked`) and by a search (`search`), which of the two the library goes by
+//! (`choice`), and the networks of the study of that search (`study`).
 
+pub mod choice;
 pub mod contracts;
 pub mod costs;
 pub mod counts;

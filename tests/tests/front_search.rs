@@ -5,6 +5,7 @@
 
 use std::collections::BTreeSet;
 
+use planner_tests::choice::{is_searched, product, searched_above};
 use planner_tests::costs::Entry;
 use planner_tests::draw;
 use planner_tests::ffi::{self, SHORT_ANSWER};
@@ -65,22 +66,6 @@ fn places(network: &Network, capacity: usize, rng: &mut Rng) -> [usize; 2] {
         _ => {}
     }
     places
-}
-
-/// The rows at each node but the plant that are not barred, multiplied: no network has more trees.
-fn product(network: &Network) -> f64 {
-    let rows = || network.rows.iter().filter(|row| row.state != BARRED);
-    let at = |node: u8| rows().filter(|row| row.ends.contains(&node)).count() as f64;
-    (2..=network.n).map(at).product()
-}
-
-/// Whether the library searches: it walks where there can be but few trees.
-fn is_searched(network: &Network) -> bool {
-    product(network) > searched_above(network.k())
-}
-
-fn searched_above(k: usize) -> f64 {
-    10f64.powi(3 + k as i32)
 }
 
 /// The plain walk lists what subsets of rows list, and has their front and witnesses; the number of trees is right.

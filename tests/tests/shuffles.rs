@@ -5,6 +5,7 @@
 
 use std::collections::BTreeMap;
 
+use planner_tests::choice::is_searched;
 use planner_tests::costs::Vector;
 use planner_tests::draw;
 use planner_tests::ffi;
@@ -319,6 +320,7 @@ fn large_networks() {
                 let (_, another) = pair.fronts(capacity, rng);
                 other_witnesses += another as usize;
             }
+            assert!(is_searched(&pair.network));
             networks += 1;
             longest = longest.max(size);
         }
