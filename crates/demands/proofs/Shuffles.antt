@@ -17,7 +17,6 @@ use Rattle.graph.proofs.Trees.{path-order}
 use Rattle.checks.specs.Checks.{answered, checked, ended, firstUnmet, outcomeBy}
 use Rattle.checks.proofs.Checks.{firstUnmet-append}
 use Rattle.costs.specs.Costs.{costOf}
-use Rattle.costs.specs.Network.{Kind}
 use Rattle.costs.proofs.Layouts.{layouts-part}
 use Rattle.network_file.specs.File.{fileChecks, networkOf, sizesOf}
 use Rattle.network_file.proofs.Accepted.{accepted}
@@ -95,9 +94,6 @@ module _ (f h numbers : List ℕ) (ok : Passes f) (passes : Passes h) (s : Shuff
       (first-most f b (renamedPath numbers p) (layout-renamed n p i) (cost-renamed n p (layout-known (networkOf h) p i) ∙ a .priced))
 
   -- Front
-
-  criteria : sizesOf h .k ≡ sizesOf f .k
-  criteria = sym (accepted h passes .kinds) ∙ ap (length {A = Kind}) (s .kinds) ∙ accepted f ok .kinds
 
   trees-met : someTree (layoutsIn h) ≡ someTree (layoutsIn f)
   trees-met = T-same (someTree (layoutsIn h)) (someTree (layoutsIn f))

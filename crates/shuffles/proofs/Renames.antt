@@ -58,7 +58,7 @@ abbrev pub Known : Network → List ℕ → Type 0
 Known v p = (r : ℕ) → r ∈ p → r < length (v .rows)
 
 pub layout-known : (v : Network) (p : List ℕ) → p ∈ layouts v → Known v p
-layout-known v p i r j = omega (arith, row-count v, trees-mem (graphOf v) p .0 (filter-out (keepsStates v) (trees (graphOf v)) i .0) .1 r j)
+layout-known v p i r j = omega (arith, row-count v, trees-mem (graphOf v) p .0 (layouts-part v .listed p i) .1 r j)
 
 -- Keys
 
@@ -239,7 +239,7 @@ module _ {w v : Network} {ρ τ : ℕ → ℕ} (n : Renaming w v ρ τ) where
       rw (same, first-end r lr, second-end r lr, first-end s ls, second-end s ls, part-renamed p q (λ x i. l x (there i)) (λ x i. m x (there i))) refl
 
   layout-steps : (p : List ℕ) → p ∈ layouts v → Stepping h p
-  layout-steps p i = minimal-stepping h p (trees-mem h p .0 (filter-out (keepsStates v) (trees h) i .0) .0)
+  layout-steps p i = minimal-stepping h p (trees-mem h p .0 (layouts-part v .listed p i) .0)
 
   -- THE ORDER
   pub order-renamed : (p q : List ℕ) → p ∈ layouts v → q ∈ layouts v → ¬ T (partParallel h p q) → pathLess g (map ρ p) (map ρ q) ≡ pathLess h p q

@@ -22,6 +22,10 @@ module _ {w v : Network} {numbers : List ℕ} (s : Shuffled w v numbers) where
   abbrev m : ℕ
   m = length (w .rows)
 
+  -- a row of v is the row of w whose number stands in its place
+  row-told : (r : ℕ) → r < length numbers → rowAt w (getD numbers r 0) ≡ rowAt v r
+  row-told r l = rw (s .rows) (sym (map-at (rowAt w) numbers r 0 noRow l))
+
   -- there are as many numbers as rows
   long : length numbers ≡ m
   long =
@@ -41,7 +45,7 @@ module _ {w v : Network} {numbers : List ℕ} (s : Shuffled w v numbers) where
     from = λ r l. omega (arith, long, same-length, place-below numbers (s .each r .1 l));
     back = λ r l. place-at numbers r (s .once) (omega (arith, long, same-length));
     forth = λ r l. node-at numbers (s .each r .1 l);
-    row = λ r l. sym (ap (λ (rows : List Row). getD rows r noRow) (s .rows) ∙ map-at (rowAt w) numbers r 0 noRow (omega (arith, long, same-length)));
+    row = λ r l. row-told r (omega (arith, long, same-length));
   }
 
 -- as many numbers as there are rows, all different, and each a row's
