@@ -58,7 +58,6 @@ fn at_rows_of_one_pair(network: &Network, one: &[u16], other: &[u16]) -> bool {
 }
 
 /// What Front comes to: its code and, with code 0, the rows of both tables and the mark.
-#[derive(Debug, PartialEq)]
 struct Fronted {
     code: u32,
     vectors: Vec<Vector>,
