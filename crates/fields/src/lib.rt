@@ -36,13 +36,15 @@ pub struct Row {
     pub state: State,
 }
 
-fn u16_of(high: u8, low: u8) -> u16
+/// Two bytes as a number, the high one first.
+pub fn u16_of(high: u8, low: u8) -> u16
     ensures { λ r. ⌜ r ≡ high * 256 + low ⌝ }
 {
     high as u16 * 256 + low as u16
 }
 
-fn u32_of(high: u16, low: u16) -> u32
+/// Two such numbers as one.
+pub fn u32_of(high: u16, low: u16) -> u32
     ensures { λ r. ⌜ r ≡ high * 65536 + low ⌝ }
 {
     high as u32 * 65536 + low as u32
@@ -128,8 +130,8 @@ pub fn is_barred(state: State) -> bool
     }
 }
 
-// The bytes of a row's state: one in version 2, none in version 1.
-fn state_width(file: &[u8]) -> usize
+/// The bytes of a row's state: one in version 2, none in version 1.
+pub fn state_width(file: &[u8]) -> usize
     ensures { λ r. ⌜ r ≡ stateWidth (now (file .entry)) ⌝ }
 {
     if slices::byte_at(file, 0) == 2 { 1 } else { 0 }

@@ -1,14 +1,16 @@
 //! Open: the checks of a network file, one after the other.
 //! Which checks a file meets stands in network_file's specs/File.antt; specs/Answers.antt says what the answer stands for.
+//! Behind check 4 the file's length is known (specs/Rows.antt), so that a check of the rows goes from row to row by the bytes of a row and reads them in place.
 ghost use mathlib.Core.Path.{_≡_};
-ghost use mathlib.Core.List.{[]};
-ghost use Prim.Native.Nat.{_<_};
-ghost use Rattle.network_file.specs.File.{bodyMet, costsMet, costsSound, endsMet, endsSound, kindsMet, lengthMet, openOf, rowIn, sizesOf, sizesSound, statesMet, versionMet, within};
-ghost use Rattle.fields.specs.Fields.{rowWith, sizesIn};
+ghost use mathlib.Core.Bool.{_&&_, not};
+ghost use Prim.Native.Nat.{_*_, _+_, _≤_};
+ghost use lib.Dec.{eqb};
+ghost use lib.ListN.{length};
+ghost use Rattle.network_file.specs.File.{bodyMet, costsMet, endsMet, kindsMet, lengthMet, openOf, sizesOf, sizesSound, statesMet, u32At, versionMet, within};
+ghost use Rattle.fields.specs.Fields.{sizesIn};
 ghost use Rattle.network.specs.Answers.{openIf, openedOf};
-use fields::ByteState;
+ghost use Rattle.network.specs.Rows.{Fitting, costsFrom};
 use fields::Header;
-use fields::Row;
 
 /// The answer of Open, and of each of its checks.
 pub enum Opened {
@@ -67,13 +69,13 @@ fn body_met(file: &[u8], header: Header) -> bool
 }
 
 fn kinds_met(file: &[u8], header: Header) -> bool
-    requires { ⌜ sizesIn header ≡ sizesOf (now file) ⌝ }
+    requires { ⌜ Fitting (now file) (sizesIn header) ⌝ }
     ensures { λ r. ⌜ r ≡ kindsMet (now (file .entry)) ⌝ }
 {
     let k = header.k as usize;
     let mut c: usize = 0;
     while c < k {
-        if 2 < slices::byte_at(file, 9 + c) {
+        if 2 < file[9 + c] {
             return false;
         }
         c += 1;
@@ -81,13 +83,12 @@ fn kinds_met(file: &[u8], header: Header) -> bool
     true
 }
 
-fn ends_sound(n: u8, row: Row) -> bool
-    ensures { λ r. ⌜ r ≡ endsSound n (rowWith row []) ⌝ }
+// Whether both are nodes, and different ones.
+fn ends_sound(n: u8, a: u8, b: u8) -> bool
+    ensures { λ r. ⌜ r ≡ (within 1 n a && (within 1 n b && not (eqb a b))) ⌝ }
 {
-    let a = row.first as u16;
-    let b = row.second as u16;
-    if within(1, n as u16, a) {
-        if within(1, n as u16, b) {
+    if within(1, n as u16, a as u16) {
+        if within(1, n as u16, b as u16) {
             a != b
         } else {
             false
@@ -98,29 +99,44 @@ fn ends_sound(n: u8, row: Row) -> bool
 }
 
 fn ends_met(file: &[u8], header: Header) -> bool
-    requires { ⌜ sizesIn header ≡ sizesOf (now file) ⌝ }
+    requires { ⌜ Fitting (now file) (sizesIn header) ⌝ }
     ensures { λ r. ⌜ r ≡ endsMet (now (file .entry)) ⌝ }
 {
     let n = header.n;
     let m = header.m as usize;
+    let step = fields::row_bytes(file);
+    let mut at = 9 + header.k as usize;
     let mut r: usize = 0;
     while r < m {
-        if !ends_sound(n, fields::row_at(file, r)) {
+        if !ends_sound(n, file[at], file[at + 1]) {
             return false;
         }
+        at += step;
         r += 1;
     }
     true
 }
 
-fn costs_sound(file: &[u8], header: Header, row: usize) -> bool
-    requires { ⌜ (sizesIn header ≡ sizesOf (now file)) × (row < header .m) ⌝ }
-    ensures { λ r. ⌜ r ≡ costsSound (rowIn (now (file .entry)) row) ⌝ }
+// The number in four bytes, all of them there.
+fn u32_in(file: &[u8], at: usize) -> u32
+    requires { ⌜ at + 4 ≤ length (now file) ⌝ }
+    ensures { λ r. ⌜ r ≡ u32At (now (file .entry)) at ⌝ }
 {
-    let k = header.k as usize;
+    let low = at + 2;
+    fields::u32_of(
+        fields::u16_of(file[at], file[at + 1]),
+        fields::u16_of(file[low], file[low + 1]),
+    )
+}
+
+// Whether none of the k costs from a place on is above 1,000,000.
+fn costs_sound(file: &[u8], at: usize, k: usize) -> bool
+    requires { ⌜ at + 4 * k ≤ length (now file) ⌝ }
+    ensures { λ r. ⌜ r ≡ costsFrom (now (file .entry)) at k ⌝ }
+{
     let mut c: usize = 0;
     while c < k {
-        if 1000000 < fields::cost_at(file, c, row) {
+        if 1000000 < u32_in(file, at + 4 * c) {
             return false;
         }
         c += 1;
@@ -129,31 +145,42 @@ fn costs_sound(file: &[u8], header: Header, row: usize) -> bool
 }
 
 fn costs_met(file: &[u8], header: Header) -> bool
-    requires { ⌜ sizesIn header ≡ sizesOf (now file) ⌝ }
+    requires { ⌜ Fitting (now file) (sizesIn header) ⌝ }
     ensures { λ r. ⌜ r ≡ costsMet (now (file .entry)) ⌝ }
 {
     let m = header.m as usize;
+    let k = header.k as usize;
+    let step = fields::row_bytes(file);
+    let lead = 4 + fields::state_width(file);
+    let mut at = 9 + k;
     let mut r: usize = 0;
     while r < m {
-        if !costs_sound(file, header, r) {
+        if !costs_sound(file, at + lead, k) {
             return false;
         }
+        at += step;
         r += 1;
     }
     true
 }
 
 fn states_met(file: &[u8], header: Header) -> bool
-    requires { ⌜ sizesIn header ≡ sizesOf (now file) ⌝ }
+    requires { ⌜ Fitting (now file) (sizesIn header) ⌝ }
     ensures { λ r. ⌜ r ≡ statesMet (now (file .entry)) ⌝ }
 {
-    let m = header.m;
-    let mut r: u16 = 0;
+    // without state bytes each row is open
+    if file[0] != 2 {
+        return true;
+    }
+    let m = header.m as usize;
+    let step = fields::row_bytes(file);
+    let mut at = 9 + header.k as usize;
+    let mut r: usize = 0;
     while r < m {
-        let state = fields::state_of(fields::state_byte(file, r));
-        if let ByteState::Unknown = state {
+        if 2 < file[at + 4] {
             return false;
         }
+        at += step;
         r += 1;
     }
     true
@@ -200,7 +227,7 @@ fn check_body(file: &[u8], header: Header) -> Opened
 
 // Check 5: each kind byte names a kind.
 fn check_kinds(file: &[u8], header: Header) -> Opened
-    requires { ⌜ sizesIn header ≡ sizesOf (now file) ⌝ }
+    requires { ⌜ Fitting (now file) (sizesIn header) ⌝ }
     ensures { λ r. ⌜ openedOf r ≡ openIf 5 (kindsMet (now (file .entry))) (sizesIn header) ⌝ }
 {
     answer_if(header, 5, kinds_met(file, header))
@@ -208,7 +235,7 @@ fn check_kinds(file: &[u8], header: Header) -> Opened
 
 // Check 6: the ends of each row are two different nodes.
 fn check_ends(file: &[u8], header: Header) -> Opened
-    requires { ⌜ sizesIn header ≡ sizesOf (now file) ⌝ }
+    requires { ⌜ Fitting (now file) (sizesIn header) ⌝ }
     ensures { λ r. ⌜ openedOf r ≡ openIf 6 (endsMet (now (file .entry))) (sizesIn header) ⌝ }
 {
     answer_if(header, 6, ends_met(file, header))
@@ -216,7 +243,7 @@ fn check_ends(file: &[u8], header: Header) -> Opened
 
 // Check 7: no cost is above 1,000,000.
 fn check_costs(file: &[u8], header: Header) -> Opened
-    requires { ⌜ sizesIn header ≡ sizesOf (now file) ⌝ }
+    requires { ⌜ Fitting (now file) (sizesIn header) ⌝ }
     ensures { λ r. ⌜ openedOf r ≡ openIf 7 (costsMet (now (file .entry))) (sizesIn header) ⌝ }
 {
     answer_if(header, 7, costs_met(file, header))
@@ -224,7 +251,7 @@ fn check_costs(file: &[u8], header: Header) -> Opened
 
 // Check 14: each state byte names a state.
 fn check_states(file: &[u8], header: Header) -> Opened
-    requires { ⌜ sizesIn header ≡ sizesOf (now file) ⌝ }
+    requires { ⌜ Fitting (now file) (sizesIn header) ⌝ }
     ensures { λ r. ⌜ openedOf r ≡ openIf 14 (statesMet (now (file .entry))) (sizesIn header) ⌝ }
 {
     answer_if(header, 14, states_met(file, header))

@@ -59,6 +59,15 @@ pub version-2 : (f : List ℕ) → version f ≡ 2 → (stateWidth f ≡ 1) × (
 unfolding stateWidth rowIn stateByte
 version-2 f e = (rw e, λ r. rw e)
 
+-- by checks 2 and 4 a file ends where a row behind the last would begin
+pub file-length : (f : List ℕ) → T (lengthMet f) → T (bodyMet f) → length f ≡ rowStart f (sizesOf f .m)
+unfolding lengthMet bodyMet
+file-length f by-length by-body =
+    let (nine, five) = T-both (leb 9 (length f)) (eqb (lengthField f) (length f - 5)) .0 by-length in
+    let whole = eqb→eq (lengthField f) (length f - 5) five in
+    let body = eqb→eq (lengthField f) (4 + sizesOf f .k + sizesOf f .m * rowBytes f) by-body in
+    omega (arith, leb→le 9 (length f) nine)
+
 -- The rows of the network of a file
 
 pub rows-length : (f : List ℕ) → length (networkOf f .rows) ≡ sizesOf f .m
@@ -131,17 +140,13 @@ module _ (f : List ℕ) (h : firstUnmet (fileChecks f) ≡ none) where
   met c m = T-true (c .met) .1 (met-all (fileChecks f) .0 h c m)
 
   pub accepted : Accepted f
-  unfolding fileChecks versionMet lengthMet sizesMet bodyMet kindsMet endsMet costsMet statesMet networkOf
+  unfolding fileChecks versionMet sizesMet kindsMet endsMet costsMet statesMet networkOf
   accepted =
       let n = sizesOf f .n in
       let m = sizesOf f .m in
       let k = sizesOf f .k in
-      let (nine, five) = T-both (leb 9 (length f)) (eqb (lengthField f) (length f - 5)) .0 (met (record { number = 2; met = lengthMet f }) (there (here refl))) in
       let (inN, more) = T-both (within 2 32 n) (both (within 0 256 m) (within 1 4 k)) .0 (met (record { number = 3; met = sizesMet f }) (there (there (here refl)))) in
       let (inM, inK) = T-both (within 0 256 m) (within 1 4 k) .0 more in
-      let body = eqb→eq (lengthField f) (4 + k + m * rowBytes f) (met (record { number = 4; met = bodyMet f }) (there (there (there (here refl))))) in
-      let whole = eqb→eq (lengthField f) (length f - 5) five in
-      let atLeast = leb→le 9 (length f) nine in
       let bytes : length (kindBytes f) ≡ k = length-map (range 0 k) (λ c. byteAt f (9 + c)) ∙ range-length 0 k in
       let kindly = met (record { number = 5; met = kindsMet f }) (there (there (there (there (here refl))))) in
       let ended = met (record { number = 6; met = endsMet f }) (there (there (there (there (there (here refl)))))) in
@@ -154,7 +159,7 @@ module _ (f : List ℕ) (h : firstUnmet (fileChecks f) ≡ none) where
         rows-high = within-out 0 256 m inM .1;
         criteria-low = within-out 1 4 k inK .0;
         criteria-high = within-out 1 4 k inK .1;
-        long = omega arith;
+        long = file-length f (met (record { number = 2; met = lengthMet f }) (there (here refl))) (met (record { number = 4; met = bodyMet f }) (there (there (there (here refl)))));
         kinds = kinds-length (kindBytes f) kindly ∙ bytes;
         named = λ c l. kinds-named (kindBytes f) kindly c (omega (arith, bytes)) ∙ ap kindOf (getD-map-range (λ c. byteAt f (9 + c)) k c 0 l);
         rows = rows-length f;

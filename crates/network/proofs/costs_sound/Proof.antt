@@ -1,43 +1,37 @@
--- The loop's invariant: the costs of the row come to what they come to from criterion c on.
+-- The loop's invariant: the costs come to what they come to from criterion c on. Its measure: the criteria left.
 use mathlib.Core.Path.{_∙_, _≡_, sym}
 use Prim.Native.Nat.{_-_}
-use lib.Dec.{leb}
 use borrow.Author.Needs.{needs}
 use borrow.Author.Tests.{le-leb, lt-leb}
 use Rattle.lists.proofs.Ranges.{all-range-end, all-range-next, all-range-stop}
 use Rattle.lists.specs.Lists.{all, range}
-use Rattle.network_file.specs.File.{costsSound, rowIn}
-use Rattle.network.proofs.Laws.{cost-read, costFine, costs-row-start}
+use Rattle.network.specs.Rows.{costsFrom}
+use Rattle.network.proofs.Laws.{cost-read, costFine, costs-from}
 use Rattle.network.proofs.costs_sound.Statement.{statement}
 use Rattle.network.proofs.costs_sound.Tie as tie
 
 abbrev Inv-loop : tie.InvT-loop
-Inv-loop file row k c₀ c = costsSound (rowIn file row) ≡ all (costFine file row) (range c (k - c))
+Inv-loop file at k c₀ c = costsFrom file at k ≡ all (costFine file at) (range c (k - c))
 
 abbrev μ-loop : tie.MeasureT-loop
-μ-loop file row k c₀ c = k - c
-
-cast-k : tie.Need-cast-k Inv-loop μ-loop
-cast-k c = search needs
+μ-loop file at k c₀ c = k - c
 
 loop-holds : tie.Need-loop-holds Inv-loop μ-loop
-loop-holds c = costs-row-start _ _ (c .before .before .pre .0) (c .before .before .args .row)
+loop-holds c = costs-from _ _ _
 
-cost-at-requires : tie.Need-cost-at-requires Inv-loop μ-loop
-cost-at-requires c κs = search needs
+mul-u32-in : tie.Need-mul-u32-in Inv-loop μ-loop
+mul-u32-in c = search needs
 
--- what the code asks of criterion c is what check 7 asks
-asked : (c : tie.After-cost-at Inv-loop μ-loop)
-    → costFine (c .before .before .before .before .before .args .file .now) (c .before .before .before .before .before .args .row) (c .before .before .loop .c)
-    ≡ leb (c .cost-at .result) 1000000
-asked c =
-    let a = c .before .before .before .before .before in
-    cost-read _ _ (a .pre .0) (a .args .row) (c .before .before .loop .c) (c .cost-at .result) (a .pre .1) (c .before .loop-test .taken) (c .cost-at .ensures)
+add-u32-in : tie.Need-add-u32-in Inv-loop μ-loop
+add-u32-in c = search needs
+
+u32-in-requires : tie.Need-u32-in-requires Inv-loop μ-loop
+u32-in-requires c κs = search needs
 
 returns : tie.Need-returns Inv-loop μ-loop
 returns c =
     sym (c .before .before .before .loop .inv ∙ all-range-stop _ _ _ (c .before .before .loop-test .taken)
-    (asked (c .before) ∙ lt-leb _ 1000000 (c .if1 .taken)))
+    (cost-read _ _ _ _ (c .before .u32-in .ensures) ∙ lt-leb _ 1000000 (c .if1 .taken)))
 
 add-c : tie.Need-add-c Inv-loop μ-loop
 add-c c = search needs
@@ -47,7 +41,8 @@ loop-less c = search needs
 
 loop-again : tie.Need-loop-again Inv-loop μ-loop
 loop-again c =
-    c .before .before .before .loop .inv ∙ all-range-next _ _ _ (c .before .before .loop-test .taken) (asked (c .before) ∙ le-leb _ 1000000 (c .if1 .left))
+    c .before .before .before .loop .inv ∙ all-range-next _ _ _ (c .before .before .loop-test .taken)
+    (cost-read _ _ _ _ (c .before .u32-in .ensures) ∙ le-leb _ 1000000 (c .if1 .left))
 
 returns-2 : tie.Need-returns-2 Inv-loop μ-loop
 returns-2 c = sym (c .before .loop .inv ∙ all-range-end _ _ _ (c .loop-test .left))
@@ -58,9 +53,10 @@ costs-sound-spec =
     (tie.spec
     Inv-loop
     μ-loop
-    cast-k
     loop-holds
-    cost-at-requires
+    mul-u32-in
+    add-u32-in
+    u32-in-requires
     returns
     add-c
     loop-less

@@ -3,12 +3,6 @@ use borrow.Author.Needs.{needs}
 use Rattle.network.proofs.ends_sound.Statement.{statement}
 use Rattle.network.proofs.ends_sound.Tie as tie
 
-cast-a : tie.Need-cast-a
-cast-a c = search needs
-
-cast-b : tie.Need-cast-b
-cast-b c = search needs
-
 within-requires : tie.Need-within-requires
 within-requires c κs = search needs
 
@@ -26,5 +20,4 @@ returns-3 c = rw (sym (c .before .within .ensures) ∙ c .if1 .left)
 
 pub ends-sound-spec : {M : Type 1} → statement M
 ends-sound-spec =
-    tie.close
-    (tie.spec cast-a cast-b within-requires within-requires-2 returns returns-2 returns-3)
+    tie.close (tie.spec within-requires within-requires-2 returns returns-2 returns-3)

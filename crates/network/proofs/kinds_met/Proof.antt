@@ -1,12 +1,13 @@
--- The loop's invariant: check 5 comes to what it comes to from byte c on.
+-- The loop's invariant: check 5 comes to what it comes to from byte c on. Its measure: the bytes left.
 use mathlib.Core.Path.{_∙_, _≡_, sym}
 use Prim.Native.Nat.{_-_}
+use native.Mathlib.Omega.{arith}
 use borrow.Author.Needs.{needs}
 use borrow.Author.Tests.{le-leb, lt-leb}
 use Rattle.lists.proofs.Ranges.{all-range-end, all-range-next, all-range-stop}
 use Rattle.lists.specs.Lists.{all, range}
 use Rattle.network_file.specs.File.{kindsMet}
-use Rattle.network.proofs.Laws.{kind-read, kindAt, kinds-start}
+use Rattle.network.proofs.Laws.{kind-read, kindAt, kinds-start, kinds-there}
 use Rattle.network.proofs.kinds_met.Statement.{statement}
 use Rattle.network.proofs.kinds_met.Tie as tie
 
@@ -20,17 +21,18 @@ cast-k : tie.Need-cast-k Inv-loop μ-loop
 cast-k c = search needs
 
 loop-holds : tie.Need-loop-holds Inv-loop μ-loop
-loop-holds c = kinds-start _ _ (c .before .before .pre)
+loop-holds c = kinds-start _ _ (c .before .pre .same)
 
-add-byte-at : tie.Need-add-byte-at Inv-loop μ-loop
-add-byte-at c = search needs
+add-if1 : tie.Need-add-if1 Inv-loop μ-loop
+add-if1 c = search needs
 
-byte-at-requires : tie.Need-byte-at-requires Inv-loop μ-loop
-byte-at-requires c κs = search needs
+shared-slice-read-if1 : tie.Need-shared-slice-read-if1 Inv-loop μ-loop
+shared-slice-read-if1 c = omega (arith, kinds-there (c .before .before .before .before .pre))
 
 returns : tie.Need-returns Inv-loop μ-loop
 returns c =
-    sym (c .before .before .before .loop .inv ∙ all-range-stop _ _ _ (c .before .before .loop-test .taken) (kind-read _ _ _ (c .before .byte-at .ensures) ∙ lt-leb _ _ (c .if1 .taken)))
+    sym (c .before .before .before .loop .inv ∙ all-range-stop _ _ _ (c .before .before .loop-test .taken)
+    (kind-read _ _ ∙ lt-leb _ _ (c .if1 .taken)))
 
 add-c : tie.Need-add-c Inv-loop μ-loop
 add-c c = search needs
@@ -40,7 +42,7 @@ loop-less c = search needs
 
 loop-again : tie.Need-loop-again Inv-loop μ-loop
 loop-again c =
-    c .before .before .before .loop .inv ∙ all-range-next _ _ _ (c .before .before .loop-test .taken) (kind-read _ _ _ (c .before .byte-at .ensures) ∙ le-leb _ _ (c .if1 .left))
+    c .before .before .before .loop .inv ∙ all-range-next _ _ _ (c .before .before .loop-test .taken) (kind-read _ _ ∙ le-leb _ _ (c .if1 .left))
 
 returns-2 : tie.Need-returns-2 Inv-loop μ-loop
 returns-2 c = sym (c .before .loop .inv ∙ all-range-end _ _ _ (c .loop-test .left))
@@ -53,8 +55,8 @@ kinds-met-spec =
     μ-loop
     cast-k
     loop-holds
-    add-byte-at
-    byte-at-requires
+    add-if1
+    shared-slice-read-if1
     returns
     add-c
     loop-less

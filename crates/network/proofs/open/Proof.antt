@@ -4,7 +4,9 @@ use mathlib.Core.List.{List}
 use Prim.Native.Nat.{ℕ}
 use borrow.Author.Needs.{needs}
 use Rattle.network_file.specs.File.{fileChecks, openOf}
-use Rattle.network.proofs.Laws.{open-end, open-next, open-start, open-stop, openFrom, sizes-asked}
+use Rattle.fields.specs.Fields.{sizesIn}
+use Rattle.network.specs.Rows.{Fitting}
+use Rattle.network.proofs.Laws.{fitting, open-end, open-next, open-start, open-stop, openFrom, sizes-asked}
 use Rattle.network.proofs.open.Statement.{statement}
 use Rattle.network.proofs.open.Tie as tie
 
@@ -112,8 +114,14 @@ returns-4 c =
     open-stop _ (read3 (c .before .before .before) .header-of .ensures) 3 refl (c .enum-told8 .given .1) (search needs)
     ∙ sym (passed3 (c .before .before .before))
 
+-- the file has the length that the checks behind it take as given
+fits : (c : tie.After-enum-told7) → Fitting (file (read4 c)) (sizesIn (read4 c .header-of .result))
+fits c =
+    let length-met = c .before .before .before .before .before .before in
+    fitting (file (read4 c)) (read4 c .header-of .ensures) (length-met .enum-told3 .given .1) (search needs) (c .enum-told7 .given .1) (search needs)
+
 check-kinds-requires : tie.Need-check-kinds-requires
-check-kinds-requires c κs = search needs
+check-kinds-requires c κs = search (needs, fits)
 
 enum-told-9 : tie.Need-enum-told-9
 enum-told-9 c = search needs
@@ -138,7 +146,7 @@ returns-5 c =
     ∙ sym (passed4 (c .before .before .before))
 
 check-ends-requires : tie.Need-check-ends-requires
-check-ends-requires c κs = search needs
+check-ends-requires c κs = search (needs, fits)
 
 enum-told-11 : tie.Need-enum-told-11
 enum-told-11 c = search needs
@@ -163,7 +171,7 @@ returns-6 c =
     ∙ sym (passed5 (c .before .before .before))
 
 check-costs-requires : tie.Need-check-costs-requires
-check-costs-requires c κs = search needs
+check-costs-requires c κs = search (needs, fits)
 
 enum-told-13 : tie.Need-enum-told-13
 enum-told-13 c = search needs
@@ -188,7 +196,7 @@ returns-7 c =
     ∙ sym (passed6 (c .before .before .before))
 
 check-states-requires : tie.Need-check-states-requires
-check-states-requires c κs = search needs
+check-states-requires c κs = search (needs, fits)
 
 enum-told-15 : tie.Need-enum-told-15
 enum-told-15 c = search needs
