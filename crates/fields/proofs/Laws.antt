@@ -4,11 +4,13 @@ use mathlib.Core.List.{List}
 use Prim.Native.Nat.{_*_, _+_, _<_, _≤_, ℕ}
 use native.Mathlib.Nat.{mul-le-mul}
 use native.Mathlib.Omega.{arith}
+use lib.Dec.{eqb}
+use Rattle.lists.specs.Lists.{pick}
 use Rattle.lists.proofs.Ranges.{getD-map-past, getD-map-range}
 use Rattle.costs.specs.Costs.{costAt}
 use Rattle.costs.specs.Network.{«open», rowAt}
 use Rattle.network_file.proofs.Accepted.{past-costs, row-in, row-past, state-width}
-use Rattle.network_file.specs.File.{Sizes, byteAt, networkOf, rowBytes, rowIn, rowStart, sizesOf, stateByte, stateOf, stateOr, stateWidth, u16At, u32At}
+use Rattle.network_file.specs.File.{Sizes, byteAt, networkOf, rowBytes, rowIn, rowStart, sizesOf, stateByte, stateOf, stateOr, stateWidth, u16At, u32At, version}
 use Rattle.fields.specs.Fields.{stateIn}
 use Rattle.fields.specs.declared.State.{State}
 
@@ -25,11 +27,11 @@ cost-in f r c h l = rw (row-in f r h) (getD-map-range (λ c. u32At f (rowStart f
 -- the code has read the file's sizes s
 module _ (f : List ℕ) (r : ℕ) (s : Sizes) (same : s ≡ sizesOf f) where
   -- and where row r begins
-  pub row-read : (x y z : ℕ) (state : State) (at : ℕ) → r < s .m → at ≡ rowStart f r → x ≡ byteAt f at → y ≡ byteAt f (at + 1) → z ≡ u16At f (at + 2)
-      → stateIn state ≡ stateOr (stateOf (stateByte f r))
+  pub row-read : (x y z b : ℕ) (state : State) (at : ℕ) → r < s .m → at ≡ rowStart f r → x ≡ byteAt f at → y ≡ byteAt f (at + 1) → z ≡ u16At f (at + 2)
+      → b ≡ pick (eqb (version f) 2) (byteAt f (at + 4)) 0 → stateIn state ≡ stateOr (stateOf b)
       → record { firstEnd = x; secondEnd = y; street = z; state = stateIn state; costs = rowAt (networkOf f) r .costs } ≡ rowAt (networkOf f) r
-  unfolding rowIn
-  row-read x y z state at h start a b d e = rw (row-in f r (rw same at h), a, b, d, e, start)
+  unfolding rowIn stateByte
+  row-read x y z b state at h start first second street byte named = rw (row-in f r (rw same at h), first, second, street, named, byte, start)
 
   pub row-none : s .m ≤ r
       → record { firstEnd = 0; secondEnd = 0; street = 0; state = «open»; costs = rowAt (networkOf f) r .costs } ≡ rowAt (networkOf f) r

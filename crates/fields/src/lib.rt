@@ -2,10 +2,12 @@
 //! Where they stand is said in network_file's specs/File.antt; specs/Fields.antt says what the types below stand for.
 ghost use mathlib.Core.Path.{_≡_};
 ghost use Prim.Native.Nat.{_*_, _+_, _≤_};
+ghost use lib.Dec.{eqb};
+ghost use Rattle.lists.specs.Lists.{pick};
 ghost use Rattle.costs.specs.Costs.{costAt};
 ghost use Rattle.costs.specs.Layouts.{isBarred, isMust};
 ghost use Rattle.costs.specs.Network.{rowAt};
-ghost use Rattle.network_file.specs.File.{lengthField, networkOf, rowBytes, rowStart, sizesOf, stateByte, stateOf, stateOr, stateWidth, u16At, u32At};
+ghost use Rattle.network_file.specs.File.{byteAt, lengthField, networkOf, rowBytes, rowStart, sizesOf, stateByte, stateOf, stateOr, stateWidth, u16At, u32At, version};
 ghost use Rattle.fields.specs.Fields.{rowWith, sizesIn, stateIn, stateNamed};
 
 /// The nodes, the rows and the criteria of a network file.
@@ -153,28 +155,35 @@ fn row_start(file: &[u8], row: u16) -> usize
     9 + k + row as usize * row_bytes(file)
 }
 
-/// The state byte of a row; a row of version 1 is open.
-pub fn state_byte(file: &[u8], row: u16) -> u8
-    ensures { λ r. ⌜ r ≡ stateByte (now (file .entry)) row ⌝ }
+// The state byte of a row that begins at a place.
+fn state_at(file: &[u8], at: usize) -> u8
+    requires { ⌜ at ≤ 100000000 ⌝ }
+    ensures { λ r. ⌜ r ≡ pick (eqb (version (now (file .entry))) 2) (byteAt (now (file .entry)) (at + 4)) 0 ⌝ }
 {
     let version = slices::byte_at(file, 0);
     if version == 2 {
-        slices::byte_at(file, row_start(file, row) + 4)
+        slices::byte_at(file, at + 4)
     } else {
         0
     }
 }
 
-/// The ends, the street and the state of a row; all 0 and open where the file has no such row.
-pub fn row_at(file: &[u8], row: usize) -> Row
+/// The state byte of a row; a row of version 1 is open.
+pub fn state_byte(file: &[u8], row: u16) -> u8
+    ensures { λ r. ⌜ r ≡ stateByte (now (file .entry)) row ⌝ }
+{
+    state_at(file, row_start(file, row))
+}
+
+// As `row_at`, byte by byte, also of a file that is cut short.
+fn row_cut(file: &[u8], row: usize) -> Row
     ensures { λ r. ⌜ rowWith r (rowAt (networkOf (now (file .entry))) row .costs) ≡ rowAt (networkOf (now (file .entry))) row ⌝ }
 {
     let header = header_of(file);
     let m = header.m as usize;
     if row < m {
-        let number = row as u16;
-        let at = row_start(file, number);
-        let state = state_or_open(state_of(state_byte(file, number)));
+        let at = row_start(file, row as u16);
+        let state = state_or_open(state_of(state_at(file, at)));
         Row {
             first: slices::byte_at(file, at),
             second: slices::byte_at(file, at + 1),
@@ -189,6 +198,30 @@ pub fn row_at(file: &[u8], row: usize) -> Row
             state: State::Open,
         }
     }
+}
+
+/// The ends, the street and the state of a row; all 0 and open where the file has no such row.
+pub fn row_at(file: &[u8], row: usize) -> Row
+    ensures { λ r. ⌜ rowWith r (rowAt (networkOf (now (file .entry))) row .costs) ≡ rowAt (networkOf (now (file .entry))) row ⌝ }
+{
+    // where the sizes and the row are there two tests of the length do
+    if 9 <= file.len() {
+        let header = header_of(file);
+        let m = header.m as usize;
+        if row < m {
+            let at = row_start(file, row as u16);
+            if at + 5 <= file.len() {
+                let state = state_or_open(state_of(state_at(file, at)));
+                return Row {
+                    first: file[at],
+                    second: file[at + 1],
+                    street: u16_at(file, at + 2),
+                    state: state,
+                };
+            }
+        }
+    }
+    row_cut(file, row)
 }
 
 /// The street of a row; 0 where the file has no such row.

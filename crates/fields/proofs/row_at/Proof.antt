@@ -1,6 +1,7 @@
-use mathlib.Core.Path.{_∙_}
+use mathlib.Core.Path.{_∙_, ap, refl}
 use borrow.Author.Needs.{needs}
-use Rattle.fields.proofs.Laws.{row-none, row-read}
+use Rattle.network_file.specs.File.{stateOr}
+use Rattle.fields.proofs.Laws.{row-read}
 use Rattle.fields.proofs.row_at.Statement.{statement}
 use Rattle.fields.proofs.row_at.Tie as tie
 
@@ -10,14 +11,17 @@ header-of-requires c κs = search needs
 cast-m : tie.Need-cast-m
 cast-m c = search needs
 
-cast-number : tie.Need-cast-number
-cast-number c = search needs
+cast-row-start : tie.Need-cast-row-start
+cast-row-start c = search needs
 
 row-start-requires : tie.Need-row-start-requires
 row-start-requires c κs = search needs
 
-state-byte-requires : tie.Need-state-byte-requires
-state-byte-requires c κs = search needs
+add-if3 : tie.Need-add-if3
+add-if3 c = search needs
+
+state-at-requires : tie.Need-state-at-requires
+state-at-requires c κs = search needs
 
 state-of-requires : tie.Need-state-of-requires
 state-of-requires c κs = search needs
@@ -25,14 +29,14 @@ state-of-requires c κs = search needs
 state-or-open-requires : tie.Need-state-or-open-requires
 state-or-open-requires c κs = search needs
 
-byte-at-requires : tie.Need-byte-at-requires
-byte-at-requires c κs = search needs
+shared-slice-read-t15 : tie.Need-shared-slice-read-t15
+shared-slice-read-t15 c = search needs
 
-add-byte-at : tie.Need-add-byte-at
-add-byte-at c = search needs
+add-t17 : tie.Need-add-t17
+add-t17 c = search needs
 
-byte-at-requires-2 : tie.Need-byte-at-requires-2
-byte-at-requires-2 c κs = search needs
+shared-slice-read-t19 : tie.Need-shared-slice-read-t19
+shared-slice-read-t19 c = search needs
 
 add-u16-at : tie.Need-add-u16-at
 add-u16-at c = search needs
@@ -44,13 +48,16 @@ returns : tie.Need-returns
 returns c =
     let state = c .before .before .before in
     let byte = state .before .before in
-    let start = byte .before in
-    row-read _ _ _ (start .before .before .before .header-of .ensures) _ _ _ (state .state-or-open .result) _ (start .before .if1 .taken) (start .row-start .ensures .0)
-    (c .before .before .byte-at .ensures) (c .before .byte-at2 .ensures) (c .u16-at .ensures)
-    (state .state-or-open .ensures ∙ (rw (state .before .state-of .ensures, byte .state-byte .ensures)))
+    let start = byte .before .before in
+    row-read _ _ _ (start .before .before .before .header-of .ensures) _ _ _ _ (state .state-or-open .result) _ (start .before .if2 .taken) (start .row-start .ensures .0)
+    refl refl (c .u16-at .ensures) (byte .state-at .ensures)
+    (state .state-or-open .ensures ∙ ap stateOr (state .before .state-of .ensures))
+
+row-cut-requires : tie.Need-row-cut-requires
+row-cut-requires c κs = search needs
 
 returns-2 : tie.Need-returns-2
-returns-2 c = row-none _ _ _ (c .before .before .header-of .ensures) (c .if1 .left)
+returns-2 c = search needs
 
 pub row-at-spec : {M : Type 1} → statement M
 row-at-spec =
@@ -58,15 +65,17 @@ row-at-spec =
     (tie.spec
     header-of-requires
     cast-m
-    cast-number
+    cast-row-start
     row-start-requires
-    state-byte-requires
+    add-if3
+    state-at-requires
     state-of-requires
     state-or-open-requires
-    byte-at-requires
-    add-byte-at
-    byte-at-requires-2
+    shared-slice-read-t15
+    add-t17
+    shared-slice-read-t19
     add-u16-at
     u16-at-requires
     returns
+    row-cut-requires
     returns-2)
