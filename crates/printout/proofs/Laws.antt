@@ -1,73 +1,70 @@
--- Bytes that are put behind a line, as far as they fit (`Putting`): at the start, one byte more, no place left, no byte left.
+-- Bytes put into a buffer: what is put in two parts, one behind the other, is put at once (`behind`); and where the loop ends that puts them (`all-put`).
 use mathlib.Core.Path.{_∙_, _≡_, ap, refl, sym}
-use mathlib.Core.List.{List, [], _++_, _∷_, append-assoc, append-nil}
-use Prim.Native.Nat.{_+_, _<_, _≤_, min, suc, zero, ℕ}
-use native.Mathlib.Numerals.{add-one}
+use mathlib.Core.Bool.{Bool, false, true}
+use mathlib.Core.List.{List, [], _++_, append-assoc}
+use Prim.Native.Nat.{_+_, _<_, _≤_, ℕ}
+use native.Mathlib.Nat.{add-assoc, add-zero}
 use native.Mathlib.Omega.{arith}
-use lib.ListN.{getD, length, length-append, length-set, length-take, set, take}
-use lib.Seq.{take-all, take-append-add, take-nil, take-suc, take-suc-set}
-use Rattle.printout.specs.Line.{filled, shown}
-use Rattle.printout.specs.declared.Line.{Line}
+use borrow.Author.Tests.{leb-false, leb-true}
+use lib.Dec.{leb}
+use lib.ListN.{drop, length, length-append, length-drop, length-take, take}
+use lib.Seq.{drop-drop, drop-paste, length-paste, paste, paste-zero, take-append-add, take-append-le, take-length, take-paste}
+use Rattle.copies.proofs.Pasting.{Pasting, pasting-end}
+use Rattle.printout.specs.Text.{Filled, filled, fitting, put}
 
--- the first i bytes stand behind what the line showed before, up to the place `at`
-pub record Putting (bytes : List ℕ) (before now : Line) (at i : ℕ) : Type 0 where
-  pub long : length (now .bytes) ≡ 512
-  pub room : at ≤ 512
-  pub few : i ≤ length bytes
-  pub here : at ≡ length (shown before) + i
-  pub holds : take at (now .bytes) ≡ shown before ++ take i bytes
+-- where nothing fits, the buffer stays as it is
+put-still : (out : List ℕ) (at : ℕ) (bytes : List ℕ) → fitting out at bytes ≡ 0 → filled out at ≡ put out at bytes
+unfolding put
+put-still out at bytes none =
+    rw none (ap (λ (l : List ℕ). filled l at) (paste-zero out at bytes) ∙ ap (filled (paste out at bytes 0)) (sym (add-zero at)))
 
-module _ {bytes : List ℕ} {before : Line} where
-  pub none-yet : {at : ℕ} → length (before .bytes) ≡ 512 → at ≡ filled before → Putting bytes before before at 0
-  none-yet {at} long e = record {
-    long = long;
-    room = omega arith;
-    few = omega arith;
-    here = simp length-take (omega arith);
-    holds = ap (λ (k : ℕ). take k (before .bytes)) e ∙ sym (append-nil (shown before));
-  }
+pub put-none : (out : List ℕ) (at : ℕ) → filled out at ≡ put out at []
+put-none out at = put-still out at [] (omega arith)
 
-  pub one-more : {now : Line} {at i : ℕ} → Putting bytes before now at i → at < 512 → i < length bytes
-      → Putting bytes before (record { bytes = set (now .bytes) at (getD bytes i 0); len = now .len }) (at + 1) (i + 1)
-  one-more {now} {at} {i} p room some =
-      let long = p .long in
-      record {
-        long = simp length-set long;
-        room = omega arith;
-        few = omega arith;
-        here = omega (arith, p .here);
-        holds =
-            rw (add-one at, add-one i, take-suc-set (now .bytes) at (getD bytes i 0) (omega arith), take-suc bytes i 0 some, p .holds)
-            (append-assoc (shown before) (take i bytes) _);
-      }
+-- the buffer keeps its length
+put-length : (out : List ℕ) (at : ℕ) (bytes : List ℕ) → length (paste out at bytes (fitting out at bytes)) ≡ length out
+put-length out at bytes = simp (length-append, length-take, length-drop) (omega arith)
 
-  pub full : {now : Line} {at i : ℕ} → Putting bytes before now at i → 512 ≤ at → take (min at 512) (now .bytes) ≡ take 512 (shown before ++ bytes)
-  full {now} {at} {i} p none =
-      let here : min at 512 ≡ at = omega (arith, p .room) in
-      let there : length (shown before) + i ≡ 512 = omega (arith, p .here, p .room) in
-      ap (λ (k : ℕ). take k (now .bytes)) here
-      ∙ p .holds
-      ∙ sym (take-append-add (shown before) bytes i)
-      ∙ ap (λ (k : ℕ). take k (shown before ++ bytes)) there
+module _ (out : List ℕ) (at : ℕ) (a b : List ℕ) where
+  -- the first part fits whole
+  both-fit : at + length a ≤ length out → put (paste out at a (length a)) (at + length a) b ≡ put out at (a ++ b)
+  unfolding put
+  both-fit fits =
+      let n = length a in
+      let between = paste out at a n in
+      let m = fitting between (at + n) b in
+      let long : length between ≡ length out = length-paste out at a n fits (omega arith) in
+      let all : fitting out at (a ++ b) ≡ n + m = omega (arith, length-append a b) in
+      let before : take (at + n) between ≡ take at out ++ a = take-paste out at a n (omega arith) (omega arith) ∙ ap (λ (l : List ℕ). take at out ++ l) (take-length a) in
+      let rest : drop (at + n) between ≡ drop (at + n) out = drop-paste out at a n (omega arith) (omega arith) in
+      let after : drop (at + n + m) between ≡ drop (at + n + m) out = sym (drop-drop m (at + n) between) ∙ ap (drop m) rest ∙ drop-drop m (at + n) out in
+      rw (all, before, after, take-append-add a b m, append-assoc (take at out) a (take m b), add-assoc at n m)
 
-  pub all-in : {now : Line} {at i : ℕ} → Putting bytes before now at i → length bytes ≤ i → take (min at 512) (now .bytes) ≡ take 512 (shown before ++ bytes)
-  all-in {now} {at} {i} p all =
-      let here : min at 512 ≡ at = omega (arith, p .room) in
-      ap (λ (k : ℕ). take k (now .bytes)) here
-      ∙ p .holds
-      ∙ ap (λ (l : List ℕ). shown before ++ l) (take-all i bytes all)
-      ∙ sym (take-all 512 (shown before ++ bytes) (rw length-append (omega (arith, p .here, p .room, p .few))))
+  -- the buffer ends within the first part
+  first-cut : length out < at + length a → put (paste out at a (fitting out at a)) (at + fitting out at a) b ≡ put out at (a ++ b)
+  unfolding put
+  first-cut cut =
+      let n = fitting out at a in
+      let all : fitting out at (a ++ b) ≡ n = omega (arith, length-append a b) in
+      sym (put-still (paste out at a n) (at + n) b (omega (arith, put-length out at a))) ∙ (rw (all, take-append-le n a b (omega arith)))
 
--- what is cut twice is cut once
-pub cut-twice : (k : ℕ) (a b : List ℕ) → take k (take k a ++ b) ≡ take k (a ++ b)
-cut-twice k [] b = rw take-nil
-cut-twice zero (x ∷ a) b = refl
-cut-twice (suc k) (x ∷ a) b = ap (λ (l : List ℕ). x ∷ l) (cut-twice k a b)
+  both : put (paste out at a (fitting out at a)) (at + fitting out at a) b ≡ put out at (a ++ b)
+  both = go (leb (at + length a) (length out)) refl
+    where
+      go : (t : Bool) → leb (at + length a) (length out) ≡ t → put (paste out at a (fitting out at a)) (at + fitting out at a) b ≡ put out at (a ++ b)
+      go true e =
+          let fits : at + length a ≤ length out = leb-true _ _ e in
+          let whole : fitting out at a ≡ length a = omega arith in
+          ap (λ (n : ℕ). put (paste out at a n) (at + n) b) whole ∙ both-fit fits
+      go false e = first-cut (leb-false _ _ e)
 
--- what is put behind in two parts is put behind at once
-pub behind : (before : List ℕ) {between after : List ℕ} (a b : List ℕ) → between ≡ take 512 (before ++ a) → after ≡ take 512 (between ++ b) → after ≡ take 512 (before ++ (a ++ b))
-behind before a b first second =
-    second
-    ∙ ap (λ (l : List ℕ). take 512 (l ++ b)) first
-    ∙ cut-twice 512 (before ++ a) b
-    ∙ ap (λ (l : List ℕ). take 512 l) (append-assoc before a b)
+pub behind : (out : List ℕ) (at : ℕ) {between after : List ℕ} {place end : ℕ} (a b : List ℕ) → filled between place ≡ put out at a → filled after end ≡ put between place b
+    → filled after end ≡ put out at (a ++ b)
+unfolding put
+behind out at {between} {after} {place} {end} a b first second = second ∙ ap (λ (f : Filled). put (f .bytes) (f .at) b) first ∙ both out at a b
+
+pub all-put : {out : List ℕ} {at : ℕ} {bytes new : List ℕ} {i : ℕ} → Pasting out at bytes (fitting out at bytes) new i → fitting out at bytes ≤ i → filled new (at + i) ≡ put out at bytes
+unfolding put
+all-put {out} {at} {bytes} {new} {i} p all =
+    let end : i ≡ fitting out at bytes = omega (arith, p .few) in
+    ap (λ (l : List ℕ). filled l (at + i)) (pasting-end p all) ∙ ap (λ (k : ℕ). filled (paste out at bytes (fitting out at bytes)) (at + k)) end

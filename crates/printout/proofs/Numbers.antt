@@ -1,4 +1,4 @@
--- Numbers behind a line: the fewest places that hold a number are those of its decimal text, and each number of a list stands behind a space.
+-- Numbers in a buffer: the fewest places that hold a number are those of its decimal text, and each number of a list stands behind a space.
 use mathlib.Core.Path.{_∙_, _≡_, ap, refl, sym}
 use mathlib.Core.List.{List, [], _++_, _∷_, append-assoc, append-nil}
 use Prim.Native.Nat.{_+_, _-_, _/_, _<_, _^_, _≤_, suc, zero, ℕ}
@@ -9,8 +9,8 @@ use lib.ListN.{getD, length, take}
 use lib.Seq.{take-all, take-suc}
 use borrow.Author.Tests.{le-ltb, lt-ltb}
 use Rattle.io.specs.Digits.{Fewest, digits}
-use Rattle.printout.specs.Line.{decimalOf, numbersOf, placesUpTo}
-use Rattle.printout.proofs.Laws.{behind}
+use Rattle.printout.specs.Text.{decimalOf, filled, numbersOf, placesUpTo, put}
+use Rattle.printout.proofs.Laws.{behind, put-none}
 
 -- a number of two places and more
 tens : (n k : ℕ) → Fewest 10 1 n (suc (suc k)) → 10 ^ suc k ≤ n
@@ -38,32 +38,33 @@ unfolding decimalOf
 spelled {n} {k} fewest e = e ∙ ap (λ (places : ℕ). digits 10 places n) (fewest-places n n k (omega arith) fewest)
 
 -- a space, and then the number's text
-pub number-behind : (before : List ℕ) (n : ℕ) {spaced after out : List ℕ} → out ≡ decimalOf n → spaced ≡ take 512 (before ++ (32 ∷ []))
-    → after ≡ take 512 (spaced ++ out) → after ≡ take 512 (before ++ (32 ∷ decimalOf n))
-number-behind before n {spaced} {after} {out} e space text =
-    behind before (32 ∷ []) out space text ∙ ap (λ (l : List ℕ). take 512 (before ++ (32 ∷ l))) e
+pub number-behind : (out : List ℕ) (at n : ℕ) {between after text : List ℕ} {place end : ℕ} → text ≡ decimalOf n → filled between place ≡ put out at (32 ∷ [])
+    → filled after end ≡ put between place text → filled after end ≡ put out at (32 ∷ decimalOf n)
+number-behind out at n {between} {after} {text} {place} {end} e space digits = behind out at (32 ∷ []) text space digits ∙ ap (λ (l : List ℕ). put out at (32 ∷ l)) e
 
 numbers-more : (l : List ℕ) (n : ℕ) → numbersOf (l ++ (n ∷ [])) ≡ numbersOf l ++ (32 ∷ decimalOf n)
 unfolding numbersOf
 numbers-more [] n = append-nil (32 ∷ decimalOf n)
 numbers-more (m ∷ l) n = ap (λ (s : List ℕ). (32 ∷ decimalOf m) ++ s) (numbers-more l n) ∙ sym (append-assoc (32 ∷ decimalOf m) (numbersOf l) (32 ∷ decimalOf n))
 
--- the first i numbers stand behind what the line showed before
-pub record Numbered (numbers before now : List ℕ) (i : ℕ) : Type 0 where
+-- the first i numbers stand in the buffer
+pub record Numbered (numbers out : List ℕ) (at : ℕ) (new : List ℕ) (place i : ℕ) : Type 0 where
   pub few : i ≤ length numbers
-  pub holds : now ≡ take 512 (before ++ numbersOf (take i numbers))
+  pub long : length new ≡ length out
+  pub holds : filled new place ≡ put out at (numbersOf (take i numbers))
 
-module _ {numbers before : List ℕ} where
-  pub none-numbered : length before ≤ 512 → Numbered numbers before before 0
+module _ {numbers out : List ℕ} {at : ℕ} where
+  pub none-numbered : Numbered numbers out at out at 0
   unfolding numbersOf
-  none-numbered short = record { few = omega arith; holds = sym (ap (λ (l : List ℕ). take 512 l) (append-nil before) ∙ take-all 512 before short) }
+  none-numbered = record { few = omega arith; long = refl; holds = put-none out at }
 
-  pub one-numbered : {now next : List ℕ} {i : ℕ} → Numbered numbers before now i → i < length numbers
-      → next ≡ take 512 (now ++ (32 ∷ decimalOf (getD numbers i 0))) → Numbered numbers before next (i + 1)
-  one-numbered {now} {next} {i} p some number = record {
+  pub one-numbered : {new next : List ℕ} {place end i : ℕ} → Numbered numbers out at new place i → i < length numbers → length next ≡ length new
+      → filled next end ≡ put new place (32 ∷ decimalOf (getD numbers i 0)) → Numbered numbers out at next end (i + 1)
+  one-numbered {new} {next} {place} {end} {i} p some kept number = record {
     few = omega arith;
-    holds = rw (add-one i, take-suc numbers i 0 some, numbers-more (take i numbers) (getD numbers i 0)) (behind before (numbersOf (take i numbers)) _ (p .holds) number);
+    long = kept ∙ p .long;
+    holds = rw (add-one i, take-suc numbers i 0 some, numbers-more (take i numbers) (getD numbers i 0)) (behind out at (numbersOf (take i numbers)) _ (p .holds) number);
   }
 
-  pub all-numbered : {now : List ℕ} {i : ℕ} → Numbered numbers before now i → length numbers ≤ i → now ≡ take 512 (before ++ numbersOf numbers)
-  all-numbered {now} {i} p all = p .holds ∙ ap (λ (l : List ℕ). take 512 (before ++ numbersOf l)) (take-all i numbers all)
+  pub all-numbered : {new : List ℕ} {place i : ℕ} → Numbered numbers out at new place i → length numbers ≤ i → filled new place ≡ put out at (numbersOf numbers)
+  all-numbered {new} {place} {i} p all = p .holds ∙ ap (λ (l : List ℕ). put out at (numbersOf l)) (take-all i numbers all)

@@ -1,102 +1,81 @@
-//! Lines of the printout: words and numbers parted by single spaces, in a buffer of the line's own.
+//! Lines of the printout, put into a buffer that is lent: words and numbers parted by single spaces, each from a place on and as far as it fits.
 //! The longest line has under 250 bytes: a tree of 31 rows with four costs.
 ghost use mathlib.Core.Path.{_≡_};
-ghost use mathlib.Core.List.{_++_, _∷_, []};
+ghost use mathlib.Core.List.{_∷_, []};
 ghost use lib.ListN.{take};
-ghost use Rattle.io.specs.Counts.{Counts};
-ghost use Rattle.printout.specs.Line.{decimalOf, filled, numbersOf, shown};
+ghost use Rattle.printout.specs.Text.{decimalOf, filled, numbersOf, put};
 
-/// A line that is being written.
-pub struct Line {
-    pub bytes: [u8; 512],
-    pub len: usize,
+/// Puts these bytes into the buffer, as far as they fit; answers the place behind.
+pub fn text(out: &mut [u8], at: usize, bytes: &[u8]) -> usize
+    ensures { λ r. ⌜ filled (now (out .exit)) r ≡ put (now (out .entry)) at (now (bytes .entry)) ⌝ }
+{
+    let mut i: usize = 0;
+    while i < bytes.len() && at + i < out.len() {
+        out[at + i] = bytes[i];
+        i += 1;
+    }
+    at + i
 }
 
-impl Line {
-    /// A line with nothing in it.
-    pub fn start() -> Line
-        ensures { λ l. ⌜ shown l ≡ [] ⌝ }
-    {
-        Line {
-            bytes: [0; 512],
-            len: 0,
-        }
-    }
+/// A line feed.
+pub fn ended(out: &mut [u8], at: usize) -> usize
+    ensures { λ r. ⌜ filled (now (out .exit)) r ≡ put (now (out .entry)) at (10 ∷ []) ⌝ }
+{
+    text(out, at, b"\n")
+}
 
-    /// How many of the line's places are filled. That they are places of it is said for a caller that lends them.
-    pub fn length(self) -> usize
-        ensures { λ r. ⌜ r ≡ filled self ⌝ }
-        ensures { λ r. ⌜ Counts r (self .bytes) ⌝ }
-    {
-        let len = self.len;
-        if len < 512 { len } else { 512 }
-    }
+/// A space and the number's decimal digits.
+pub fn number(out: &mut [u8], at: usize, n: u64) -> usize
+    ensures { λ r. ⌜ filled (now (out .exit)) r ≡ put (now (out .entry)) at (32 ∷ decimalOf n) ⌝ }
+{
+    let mut digits = [0u8; 20];
+    let k = io::decimal(n, &mut digits);
+    let spaced = text(out, at, b" ");
+    text(out, spaced, &digits[..k])
+}
 
-    /// The line with these bytes behind, as far as they fit.
-    pub fn text(mut self, bytes: &[u8]) -> Line
-        ensures { λ l. ⌜ shown l ≡ take 512 (shown self ++ now (bytes .entry)) ⌝ }
-    {
-        let mut at = self.length();
-        let mut i: usize = 0;
-        while i < bytes.len() && at < 512 {
-            self.bytes[at] = bytes[i];
-            at += 1;
-            i += 1;
-        }
-        self.len = at;
-        self
+/// The numbers of these rows.
+pub fn rows(out: &mut [u8], at: usize, rows: &[u16]) -> usize
+    ensures { λ r. ⌜ filled (now (out .exit)) r ≡ put (now (out .entry)) at (numbersOf (now (rows .entry))) ⌝ }
+{
+    let mut place = at;
+    let mut i: usize = 0;
+    while i < rows.len() {
+        place = number(out, place, rows[i] as u64);
+        i += 1;
     }
+    place
+}
 
-    /// The line with a line feed behind, if it fits.
-    pub fn ended(self) -> Line
-        ensures { λ l. ⌜ shown l ≡ take 512 (shown self ++ (10 ∷ [])) ⌝ }
-    {
-        self.text(b"\n")
+/// These costs.
+pub fn costs(out: &mut [u8], at: usize, costs: &[u32]) -> usize
+    ensures { λ r. ⌜ filled (now (out .exit)) r ≡ put (now (out .entry)) at (numbersOf (now (costs .entry))) ⌝ }
+{
+    let mut place = at;
+    let mut i: usize = 0;
+    while i < costs.len() {
+        place = number(out, place, costs[i] as u64);
+        i += 1;
     }
+    place
+}
 
-    /// The line with a space and the number's decimal digits behind, as far as they fit.
-    pub fn number(self, n: u64) -> Line
-        ensures { λ l. ⌜ shown l ≡ take 512 (shown self ++ (32 ∷ decimalOf n)) ⌝ }
-    {
-        let mut digits = [0u8; 20];
-        let k = io::decimal(n, &mut digits);
-        let line = self.text(b" ");
-        line.text(&digits[..k])
+/// The first k costs of a vector; it has four.
+pub fn vector(out: &mut [u8], at: usize, vector: [u32; 4], k: usize) -> usize
+    ensures { λ r. ⌜ filled (now (out .exit)) r ≡ put (now (out .entry)) at (numbersOf (take k vector)) ⌝ }
+{
+    if k < 4 {
+        return costs(out, at, &vector[..k]);
     }
+    costs(out, at, &vector)
+}
 
-    /// The line with these rows behind.
-    pub fn rows(self, rows: &[u16]) -> Line
-        ensures { λ l. ⌜ shown l ≡ take 512 (shown self ++ numbersOf (now (rows .entry))) ⌝ }
-    {
-        let mut line = self;
-        let mut i: usize = 0;
-        while i < rows.len() {
-            line = line.number(rows[i] as u64);
-            i += 1;
-        }
-        line
+/// What stands in the buffer before a place.
+pub fn shown(out: &[u8], at: usize) -> &[u8]
+    ensures { λ r. ⌜ now r ≡ take at (now (out .entry)) ⌝ }
+{
+    if at < out.len() {
+        return &out[..at];
     }
-
-    /// The line with these costs behind.
-    pub fn costs(self, costs: &[u32]) -> Line
-        ensures { λ l. ⌜ shown l ≡ take 512 (shown self ++ numbersOf (now (costs .entry))) ⌝ }
-    {
-        let mut line = self;
-        let mut i: usize = 0;
-        while i < costs.len() {
-            line = line.number(costs[i] as u64);
-            i += 1;
-        }
-        line
-    }
-
-    /// The line with the first k costs of a vector behind; it has four.
-    pub fn vector(self, vector: [u32; 4], k: usize) -> Line
-        ensures { λ l. ⌜ shown l ≡ take 512 (shown self ++ numbersOf (take k vector)) ⌝ }
-    {
-        if k < 4 {
-            return self.costs(&vector[..k]);
-        }
-        self.costs(&vector)
-    }
+    out
 }

@@ -8,35 +8,43 @@ use planner_c::planner_open;
 use planner_c::planner_order;
 use planner_c::planner_page;
 use planner_c::planner_reach;
-use printout::Line;
 
-// Writes the line and a line feed to the standard output.
-fn write(line: Line) {
-    let ended = line.ended();
-    let bytes = ended.bytes;
-    let n = ended.length();
-    io::write_all(STDOUT_FILENO, &bytes[..n]);
+// Writes the line, which ends at a place of the buffer, and a line feed to the standard output.
+fn write(line: &mut [u8], at: usize) {
+    let end = printout::ended(line, at);
+    io::write_all(STDOUT_FILENO, printout::shown(line, end));
 }
 
-// The line with what a call returned behind.
-fn came(line: Line, code: u32) -> Line {
+// What a call returned.
+fn came(line: &mut [u8], at: usize, code: u32) -> usize {
     if code == 0 {
-        line.text(b" gives")
-    } else {
-        line.text(b" refused").number(code as u64).text(b" keeps")
+        return printout::text(line, at, b" gives");
     }
+    let mut end = printout::text(line, at, b" refused");
+    end = printout::number(line, end, code as u64);
+    printout::text(line, end, b" keeps")
 }
 
 // Open, of a file that has so many of this: n, m and k.
 fn open(what: &[u8], many: u64, file: &[u8]) {
     let mut answer = [99; 3];
     let code = planner_open(file, &mut answer);
-    write(came(Line::start().text(what).number(many), code).costs(&answer));
+    let mut line = [0; 512];
+    let mut at = printout::text(&mut line, 0, what);
+    at = printout::number(&mut line, at, many);
+    at = came(&mut line, at, code);
+    at = printout::costs(&mut line, at, &answer);
+    write(&mut line, at);
 }
 
 // The line of a call with the rows that it was given, and with its answer.
 fn tell(what: &[u8], rows: &[u16], code: u32, answer: &[u32]) {
-    write(came(Line::start().text(what).rows(rows), code).costs(answer));
+    let mut line = [0; 512];
+    let mut at = printout::text(&mut line, 0, what);
+    at = printout::rows(&mut line, at, rows);
+    at = came(&mut line, at, code);
+    at = printout::costs(&mut line, at, answer);
+    write(&mut line, at);
 }
 
 // Reach: the word and the size.
@@ -49,7 +57,12 @@ fn reach(file: &[u8]) {
 fn order(file: &[u8], rows: &[u16]) {
     let mut path = [99; 3];
     let code = planner_order(file, rows, &mut path);
-    write(came(Line::start().text(b"order").rows(rows), code).rows(&path));
+    let mut line = [0; 512];
+    let mut at = printout::text(&mut line, 0, b"order");
+    at = printout::rows(&mut line, at, rows);
+    at = came(&mut line, at, code);
+    at = printout::rows(&mut line, at, &path);
+    write(&mut line, at);
 }
 
 fn cost(file: &[u8], rows: &[u16]) {
@@ -141,7 +154,10 @@ fn draw(file: &[u8]) {
 fn pick(file: &[u8]) {
     let mut places = [0; 8];
     page(file, &mut places, &[]);
-    write(Line::start().text(b"pick").rows(pick::pick(3, &places, 1)));
+    let mut line = [0; 512];
+    let at = printout::text(&mut line, 0, b"pick");
+    let end = printout::rows(&mut line, at, pick::pick(3, &places, 1));
+    write(&mut line, end);
 }
 
 // The front of a network like A in tables of one row and of three, and what they hold.

@@ -13,7 +13,7 @@ enum-known-opened c = search needs
 
 first-tree-requires : tie.Need-first-tree-requires
 first-tree-requires c κs =
-    let f = c .before .before .before .before .before .args .file .now in
+    let f = c .before .before .before .before .before .before .args .file .now in
     let (met, sizes) = opened-met f (c .before .opened .given .1) (c .before .before .before .«open» .ensures) in
     let (low, high, criteria) = sizes-in f met sizes in
     (omega arith, high)
@@ -23,8 +23,10 @@ enum-told c = search needs
 
 print-network-requires : tie.Need-print-network-requires
 print-network-requires c κs =
-    let (met, sizes) = opened-met (c .before .before .before .before .before .before .before .before .args .file .now) (c .before .before .before .before .opened .given .1) (c .before .before .before .before .before .before .«open» .ensures) in
-    answered-given _ met sizes (c .enum-told .given .1) (c .before .before .first-tree .ensures)
+    let tried = c .before .before .before in
+    let opened = tried .before .before .before .before in
+    let (met, sizes) = opened-met (opened .before .before .before .args .file .now) (tried .before .before .opened .given .1) (opened .«open» .ensures) in
+    answered-given _ met sizes (c .before .enum-told .given .1) (tried .first-tree .ensures)
 
 enum-known-first : tie.Need-enum-known-first
 enum-known-first c = search needs
@@ -38,11 +40,20 @@ enum-known-opened-2 c = search needs
 print-refusal-requires-2 : tie.Need-print-refusal-requires-2
 print-refusal-requires-2 c κs = search needs
 
+same-length : tie.Need-same-length
+same-length c = search needs
+
 returns : tie.Need-returns
 returns c = search needs
 
+same-length-2 : tie.Need-same-length-2
+same-length-2 c = search needs
+
 returns-2 : tie.Need-returns-2
 returns-2 c = search needs
+
+same-length-3 : tie.Need-same-length-3
+same-length-3 c = search needs
 
 returns-3 : tie.Need-returns-3
 returns-3 c = search needs
@@ -60,6 +71,9 @@ print-file-spec =
     print-refusal-requires
     enum-known-opened-2
     print-refusal-requires-2
+    same-length
     returns
+    same-length-2
     returns-2
+    same-length-3
     returns-3)

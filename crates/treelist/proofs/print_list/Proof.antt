@@ -12,45 +12,58 @@ use Rattle.treelist.proofs.print_list.Statement.{statement}
 use Rattle.treelist.proofs.print_list.Tie as tie
 
 abbrev Inv-loop : tie.InvT-loop
-Inv-loop file firsts seconds page₀ n k width start₀ len₀ total₀ page start len total =
-    (len ≤ 31) × (length start ≡ 31) × (length page ≡ length page₀) × Run file (take len start) total
+Inv-loop out₀ from file firsts seconds page₀ n k width start₀ len₀ total₀ at₀ out page start len total at =
+    (len ≤ 31) × (length start ≡ 31) × (length page ≡ length page₀) × (length out ≡ length out₀) × Run file (take len start) total
 
 abbrev μ-loop : tie.MeasureT-loop
-μ-loop file firsts seconds page₀ n k width start₀ len₀ total₀ page start len total =
+μ-loop out₀ from file firsts seconds page₀ n k width start₀ len₀ total₀ at₀ out page start len total at =
     length (restAfter (layoutsIn file) (take len start))
 
 -- the entry of the function, and the head of the loop, from a call of Page
 abbrev entry : tie.After-page Inv-loop μ-loop → tie.Start Inv-loop μ-loop
-entry c = c .before .before .before .before .before .before .before .before .before
+entry c = c .before .before .before .before .before .before .before .before .before .before
 
 abbrev head : tie.After-page Inv-loop μ-loop → tie.At-loop Inv-loop μ-loop
 head c = c .before .before .before
 
+-- the call of Page, from where its trees are counted
+abbrev paged : tie.After-held Inv-loop μ-loop → tie.After-page Inv-loop μ-loop
+paged c = c .before .before .before .before .before .before .before .before .before .before .before
+
 -- the call
-called : (c : tie.After-page Inv-loop μ-loop) → Called (entry c .args .file .now) (entry c .args .h) (take (head c .loop .len) (head c .loop .start)) (head c .loop .page) (c .page .last .1 .0) (head c .loop .total) (c .page .result)
+called : (c : tie.After-page Inv-loop μ-loop) →
+    let l = head c .loop in
+    Called (entry c .args .file .now) (entry c .args .h) (take (l .len) (l .start)) (l .page) (c .page .last .1 .0) (l .total) (c .page .result)
 called c = record {
   given = entry c .pre .0;
-  run = head c .loop .inv .3;
+  run = head c .loop .inv .4;
   room = omega (arith, entry c .pre .1, head c .loop .inv .2);
   ends = c .page .ensures;
 }
 
 -- an answer that says 'more'
 left : (c : tie.After-pick-arg Inv-loop μ-loop) →
-    let p : tie.After-page Inv-loop μ-loop = c .before .before .before .before .before .before .before .before .before .before in
-    More (entry p .args .file .now) (take (head p .loop .len) (head p .loop .start)) (p .page .last .1 .0) (entry p .args .h .n - 1) (head p .loop .total) (c .before .before .before .before .before .before .answer .given .0 .0)
-left c = page-left (called (c .before .before .before .before .before .before .before .before .before .before)) (c .before .before .before .before .before .before .answer .given .1) (c .before .if1 .left)
+    let counted = c .before .before in
+    let p = paged counted in
+    let l = head p .loop in
+    let count = counted .before .before .before .before .before .before .before .answer .given .0 .0 in
+    More (entry p .args .file .now) (take (l .len) (l .start)) (p .page .last .1 .0) (entry p .args .h .n - 1) (l .total) count
+left c =
+    let counted = c .before .before in
+    page-left (called (paged counted)) (counted .before .before .before .before .before .before .before .answer .given .1) (c .before .if1 .left)
 
 -- where the next turn takes the run up
 moved : (c : tie.After-by-value Inv-loop μ-loop) →
-    let p : tie.After-page Inv-loop μ-loop = c .before .before .before .before .before .before .before .before .before .before .before .before in
+    let counted = c .before .before .before .before in
+    let p = paged counted in
     let f = entry p .args .file .now in
     let next = take (entry p .args .h .n - 1) (c .by-value .result) in
-    Run f next (c .before .before .before .before .held .result)
+    Run f next (counted .held .result)
     × (length (restAfter (layoutsIn f) next) < length (restAfter (layoutsIn f) (take (head p .loop .len) (head p .loop .start))))
 moved c =
-    let given = entry (c .before .before .before .before .before .before .before .before .before .before .before .before) .pre .0 in
-    copied-on (c .by-value .result) _ (given .low) (given .high) (left (c .before .before)) (c .before .pick .ensures) (c .by-value .ensures .1) (c .before .before .before .before .held .ensures)
+    let counted = c .before .before .before .before in
+    let given = entry (paged counted) .pre .0 in
+    copied-on (c .by-value .result) _ (given .low) (given .high) (left (c .before .before)) (c .before .pick .ensures) (c .by-value .ensures .1) (counted .held .ensures)
 
 cast-k : tie.Need-cast-k Inv-loop μ-loop
 cast-k c = search needs
@@ -62,7 +75,7 @@ sub-width : tie.Need-sub-width Inv-loop μ-loop
 sub-width c = search needs
 
 loop-holds : tie.Need-loop-holds Inv-loop μ-loop
-loop-holds c = (omega arith, refl, refl, run-start _)
+loop-holds c = (omega arith, refl, refl, refl, run-start _)
 
 array-share-prefix-start : tie.Need-array-share-prefix-start Inv-loop μ-loop
 array-share-prefix-start c = omega arith
@@ -80,7 +93,10 @@ enum-told : tie.Need-enum-told Inv-loop μ-loop
 enum-told c = search needs
 
 same-length : tie.Need-same-length Inv-loop μ-loop
-same-length c = omega (arith, c .before .before .before .before .page .kept .1 .0)
+same-length c = search needs
+
+same-length-2 : tie.Need-same-length-2 Inv-loop μ-loop
+same-length-2 c = omega (arith, c .before .before .before .before .page .kept .1 .0)
 
 returns : tie.Need-returns Inv-loop μ-loop
 returns c = absurd (not-refused (called (c .before .before .before .before)) (c .enum-told .given .1))
@@ -91,11 +107,19 @@ print-page-requires c κs = search needs
 held-requires : tie.Need-held-requires Inv-loop μ-loop
 held-requires c κs = search needs
 
-same-length-2 : tie.Need-same-length-2 Inv-loop μ-loop
-same-length-2 c = omega (arith, c .before .before .before .before .before .before .before .before .before .page .kept .1 .0)
+write-requires : tie.Need-write-requires Inv-loop μ-loop
+write-requires c κs = search needs
+
+same-length-3 : tie.Need-same-length-3 Inv-loop μ-loop
+same-length-3 c = omega (arith, c .before .before .before .before .before .before .print-page .kept .0)
+
+same-length-4 : tie.Need-same-length-4 Inv-loop μ-loop
+same-length-4 c = omega (arith, paged (c .before .before .before) .page .kept .1 .0)
 
 returns-2 : tie.Need-returns-2 Inv-loop μ-loop
-returns-2 c = c .before .held .ensures ∙ last-page (called (c .before .before .before .before .before .before .before .before .before)) (c .before .before .before .before .before .answer .given .1) (c .if1 .taken)
+returns-2 c =
+    let counted = c .before .before .before in
+    counted .held .ensures ∙ last-page (called (paged counted)) (counted .before .before .before .before .before .before .before .answer .given .1) (c .before .before .if1 .taken)
 
 sub-pick : tie.Need-sub-pick Inv-loop μ-loop
 sub-pick c = left c .some-written
@@ -111,8 +135,10 @@ loop-less c = moved c .1
 
 loop-again : tie.Need-loop-again Inv-loop μ-loop
 loop-again c =
-    let p : tie.After-page Inv-loop μ-loop = c .before .before .before .before .before .before .before .before .before .before .before .before in
-    (omega (arith, entry p .pre .0 .high), c .by-value .ensures .0, omega (arith, p .page .kept .1 .0), moved c .0)
+    let counted = c .before .before .before .before in
+    let p = paged counted in
+    let kept = counted .before .before .before .print-page .kept .0 in
+    (omega (arith, entry p .pre .0 .high), c .by-value .ensures .0, omega (arith, p .page .kept .1 .0), omega arith, moved c .0)
 
 pub print-list-spec : {M : Type 1} → statement M
 print-list-spec =
@@ -130,10 +156,13 @@ print-list-spec =
     enum-known-answer
     enum-told
     same-length
+    same-length-2
     returns
     print-page-requires
     held-requires
-    same-length-2
+    write-requires
+    same-length-3
+    same-length-4
     returns-2
     sub-pick
     pick-requires

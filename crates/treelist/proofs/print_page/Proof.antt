@@ -1,14 +1,16 @@
--- `treelist::print_page` is safe and ends.
+-- `treelist::print_page` is safe and ends: the buffer keeps its length, and the measure is the trees left.
+use mathlib.Core.Path.{_≡_}
 use Prim.Native.Nat.{_-_, _≤_}
+use lib.ListN.{length}
 use borrow.Author.Needs.{needs}
 use Rattle.treelist.proofs.print_page.Statement.{statement}
 use Rattle.treelist.proofs.print_page.Tie as tie
 
 abbrev Inv-loop : tie.InvT-loop
-Inv-loop file firsts seconds n k page count t₀ t = t ≤ count
+Inv-loop out₀ from file firsts seconds n k page count at₀ t₀ out at t = (t ≤ count) × (length out ≡ length out₀)
 
 abbrev μ-loop : tie.MeasureT-loop
-μ-loop file firsts seconds n k page count t₀ t = count - t
+μ-loop out₀ from file firsts seconds n k page count at₀ t₀ out at t = count - t
 
 loop-holds : tie.Need-loop-holds Inv-loop μ-loop
 loop-holds c = search needs
@@ -28,6 +30,9 @@ loop-less c = search needs
 loop-again : tie.Need-loop-again Inv-loop μ-loop
 loop-again c = search needs
 
+same-length : tie.Need-same-length Inv-loop μ-loop
+same-length c = search needs
+
 returns : tie.Need-returns Inv-loop μ-loop
 returns c = search needs
 
@@ -43,4 +48,5 @@ print-page-spec =
     add-t
     loop-less
     loop-again
+    same-length
     returns)

@@ -1,4 +1,4 @@
--- `treelist::print_rest` is safe and ends.
+-- `treelist::print_rest` is safe and ends: the parts lent lie within the tables.
 use native.Mathlib.Omega.{arith}
 use lib.ListN.{length-take}
 use borrow.Author.Needs.{needs}
@@ -41,6 +41,9 @@ slice-aggregate-print-tables-2 c = simp length-take (omega arith)
 print-tables-requires : tie.Need-print-tables-requires
 print-tables-requires c κs = search needs
 
+same-length : tie.Need-same-length
+same-length c = search needs
+
 returns : tie.Need-returns
 returns c = search needs
 
@@ -60,4 +63,5 @@ print-rest-spec =
     slice-aggregate-print-tables
     slice-aggregate-print-tables-2
     print-tables-requires
+    same-length
     returns)

@@ -1,6 +1,6 @@
 -- `treelist::print_tables` is safe and ends: Front's count is at most the capacity, so the rows lie within the cost table.
-use Rattle.treelist.proofs.Laws.{rows-within}
 use borrow.Author.Needs.{needs}
+use Rattle.treelist.proofs.Laws.{rows-within}
 use Rattle.treelist.proofs.print_tables.Statement.{statement}
 use Rattle.treelist.proofs.print_tables.Tie as tie
 
@@ -27,8 +27,9 @@ cast-print-front c = search needs
 
 print-front-requires : tie.Need-print-front-requires
 print-front-requires c κs =
-    let called = c .before .before .before .before .before .before .before .before .before .before in
-    rows-within (called .before .before .before .before .before .before .pre) _ _ (c .before .before .before .before .answer .given .1) (called .front .ensures) (called .front .kept .1 .0)
+    let called = c .before .before .before .before .before .before .before .before .before .before .before in
+    let given = called .before .before .before .before .before .before .before .pre in
+    rows-within given _ _ (c .before .before .before .before .before .answer .given .1) (called .front .ensures) (called .front .kept .1 .0)
 
 print-end-requires : tie.Need-print-end-requires
 print-end-requires c κs = search needs
@@ -38,6 +39,9 @@ same-length-3 c = search needs
 
 same-length-4 : tie.Need-same-length-4
 same-length-4 c = search needs
+
+same-length-5 : tie.Need-same-length-5
+same-length-5 c = search needs
 
 returns-2 : tie.Need-returns-2
 returns-2 c = search needs
@@ -57,4 +61,5 @@ print-tables-spec =
     print-end-requires
     same-length-3
     same-length-4
+    same-length-5
     returns-2)

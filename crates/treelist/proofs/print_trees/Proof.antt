@@ -1,4 +1,4 @@
--- `treelist::print_trees` is safe and ends.
+-- `treelist::print_trees` meets its contract: the page that it lends has room for a tree.
 use native.Mathlib.Omega.{arith}
 use lib.ListN.{length-take}
 use borrow.Author.Needs.{needs}
@@ -33,7 +33,10 @@ slice-aggregate-print-list-3 : tie.Need-slice-aggregate-print-list-3
 slice-aggregate-print-list-3 c = simp length-take (omega arith)
 
 print-list-requires : tie.Need-print-list-requires
-print-list-requires c κs = (c .before .before .before .before .before .before .before .before .before .before .pre, simp length-take (omega arith))
+print-list-requires c κs = (search needs, simp length-take (omega arith))
+
+same-length : tie.Need-same-length
+same-length c = search needs
 
 returns : tie.Need-returns
 returns c = search needs
@@ -52,4 +55,5 @@ print-trees-spec =
     slice-aggregate-print-list-2
     slice-aggregate-print-list-3
     print-list-requires
+    same-length
     returns)

@@ -1,9 +1,8 @@
--- `printout::Line::number` meets its contract.
+-- A space, and then the digits that `io::decimal` spells.
 use borrow.Author.Needs.{needs}
-use Rattle.printout.specs.Line.{shown}
 use Rattle.printout.proofs.Numbers.{number-behind, spelled}
-use Rattle.printout.proofs.Line.number.Statement.{statement}
-use Rattle.printout.proofs.Line.number.Tie as tie
+use Rattle.printout.proofs.number.Statement.{statement}
+use Rattle.printout.proofs.number.Tie as tie
 
 decimal-requires : tie.Need-decimal-requires
 decimal-requires c κs = search needs
@@ -23,11 +22,14 @@ slice-aggregate-text-2 c = search needs
 text-requires-2 : tie.Need-text-requires-2
 text-requires-2 c κs = search needs
 
+same-length : tie.Need-same-length
+same-length c = search needs
+
 returns : tie.Need-returns
 returns c =
-    let decimal = c .before .before .before .before .decimal .ensures in
-    let args = c .before .before .before .before .before .before .args in
-    number-behind (shown (args .self)) (args .n) (spelled (decimal .1 .0) (decimal .1 .1)) (c .before .before .text .ensures) (c .text2 .ensures)
+    let decimal = c .before .before .before .before .before .before .before .before .before .before .decimal .ensures in
+    let args = c .before .before .before .before .before .before .before .before .before .before .before .before .before .args in
+    number-behind _ (args .at) (args .n) (spelled (decimal .1 .0) (decimal .1 .1)) (c .before .before .before .before .before .before .before .text .ensures) (c .before .before .text2 .ensures)
 
 pub number-spec : {M : Type 1} → statement M
 number-spec =
@@ -39,4 +41,5 @@ number-spec =
     array-share-prefix-digits
     slice-aggregate-text-2
     text-requires-2
+    same-length
     returns)
