@@ -142,7 +142,7 @@ pub fn measure(line: &str, network: &str, way: &str) {
         }
         "list" => {
             let list = || {
-                pages::each(network, TREES_A_PAGE, &mut |page| {
+                pages::each(network, TREES_A_PAGE[0], &mut |page| {
                     black_box(page);
                 })
             };

@@ -14,19 +14,14 @@ use planner_tests::file::Network;
 use planner_tests::walk::Graph;
 use planner_tests::{ffi, pages, walked};
 
-/// The trees of a page, as treelist has them.
-const TREES_A_PAGE: usize = 64;
-
-/// The library's list, page by page.
-fn library_pages(network: &Network, show: &mut impl FnMut(&[u16])) {
-    pages::each(network, TREES_A_PAGE, show);
-}
+/// The trees of a page: as treelist has them, and so many that what a call does once hardly counts.
+const TREES_A_PAGE: [usize; 2] = [64, 4096];
 
 /// The plain walk's list, page by page.
-fn plain_pages(network: &Network, show: &mut impl FnMut(&[u16])) {
+fn plain_pages(network: &Network, trees_a_page: usize, show: &mut impl FnMut(&[u16])) {
     let graph = Graph::new(network);
     let width = graph.width;
-    let mut page = vec![0; TREES_A_PAGE * width];
+    let mut page = vec![0; trees_a_page * width];
     let mut filled = 0;
     graph.walk(&mut |tree| {
         if filled == page.len() {
@@ -77,15 +72,24 @@ fn use_page(page: &[u16]) {
 }
 
 fn compare_lists(name: &str, network: &Network) {
-    let library = digest(|show| library_pages(network, &mut |page| show(page)));
-    let plain = digest(|show| plain_pages(network, &mut |page| show(page)));
-    assert_eq!(library, plain, "{name}: not the same list");
-    let trees = library.0 / network.width();
-    let [ours, theirs] = shortest(
-        || library_pages(network, &mut |page| use_page(page)),
-        || plain_pages(network, &mut |page| use_page(page)),
-    );
-    print_ratio(name, trees, ours, theirs);
+    let times = TREES_A_PAGE.map(|trees| {
+        let library = digest(|show| pages::each(network, trees, &mut |page| show(page)));
+        let plain = digest(|show| plain_pages(network, trees, &mut |page| show(page)));
+        assert_eq!(library, plain, "{name}: not the same list");
+        let times = shortest(
+            || pages::each(network, trees, &mut |page| use_page(page)),
+            || plain_pages(network, trees, &mut |page| use_page(page)),
+        );
+        (library.0 / network.width(), times)
+    });
+    let trees = times[0].0;
+    let each = |time: Duration| time.as_secs_f64() * 1e9 / trees as f64;
+    print!("{name:36} {trees:9}");
+    for (_, [ours, theirs]) in times {
+        let ratio = ours.as_secs_f64() / theirs.as_secs_f64();
+        print!(" {:9.1} {:9.1} {ratio:7.2}", each(ours), each(theirs));
+    }
+    println!();
 }
 
 fn print_ratio(name: &str, trees: usize, ours: Duration, theirs: Duration) {
@@ -98,10 +102,41 @@ fn print_ratio(name: &str, trees: usize, ours: Duration, theirs: Duration) {
     );
 }
 
+/// A call with a page of one tree, from the first on and behind the first tree.
+fn short_page(name: &str, network: &Network) {
+    let file = network.encode();
+    let mut page = vec![0; network.width()];
+    let mut answer = [0; 2];
+    assert_eq!(ffi::page(&file, &mut page, &[], &mut answer), 0);
+    let first = page.clone();
+    let mut behind = page.clone();
+    let calls = 1_000;
+    let mut call = |page: &mut [u16], start: &[u16]| {
+        for _ in 0..calls {
+            assert_eq!(ffi::page(&file, page, start, &mut [0; 2]), 0);
+            use_page(page);
+        }
+    };
+    let call = &mut call;
+    let mut best = [Duration::MAX; 2];
+    for _ in 0..500 {
+        for (best, (page, start)) in best
+            .iter_mut()
+            .zip([(&mut page, &[][..]), (&mut behind, &first[..])])
+        {
+            let begun = Instant::now();
+            call(page, start);
+            *best = begun.elapsed().min(*best);
+        }
+    }
+    let each = |time: Duration| time.as_secs_f64() * 1e9 / calls as f64;
+    println!("{name:36} {:12.0} {:12.0}", each(best[0]), each(best[1]));
+}
+
 /// The first page of a network on which the plain walk would not end.
 fn first_page(name: &str, network: &Network) {
     let file = network.encode();
-    let mut page = vec![0; TREES_A_PAGE * network.width()];
+    let mut page = vec![0; TREES_A_PAGE[0] * network.width()];
     let mut answer = [0; 2];
     let mut times = Vec::new();
     for _ in 0..50 {
@@ -130,7 +165,9 @@ fn compare_fronts(name: &str, network: &Network) {
     let mut witnesses = vec![0; FRONT_ROWS * width];
     let mut answer = [0; 2];
     let mut trees = 0;
-    plain_pages(network, &mut |page| trees += page.len() / width);
+    plain_pages(network, TREES_A_PAGE[0], &mut |page| {
+        trees += page.len() / width
+    });
     let [ours, theirs] = shortest(
         || {
             assert_eq!(
@@ -180,10 +217,12 @@ fn main() {
 }
 
 fn tables() {
-    println!("Page: the whole list in pages of {TREES_A_PAGE} trees, nanoseconds a tree");
+    let [short, long] = TREES_A_PAGE;
+    println!("Page: the whole list, nanoseconds a tree");
+    println!("{:46} pages of {short:<20} pages of {long}", "");
     println!(
-        "{:36} {:>9} {:>12} {:>12} {:>8}",
-        "", "trees", "library", "plain Rust", "ratio"
+        "{:36} {:>9} {:>9} {:>9} {:>7} {:>9} {:>9} {:>7}",
+        "", "trees", "library", "plain", "ratio", "library", "plain", "ratio"
     );
     compare_lists("complete graph of 7 nodes", &networks::complete(7, &[0]));
     compare_lists("complete graph of 8 nodes", &networks::complete(8, &[0]));
@@ -192,6 +231,9 @@ fn tables() {
         &networks::random(10, 25, &[0]),
     );
     compare_lists("ladder of 12 nodes", &networks::ladder(12, &[0]));
+    compare_lists("grid of 4 by 4 nodes", &networks::grid(4, 4, &[0]));
+    compare_lists("line of 12 nodes by 3 rows each", &networks::line(12, 3));
+    compare_lists("streets, 20 nodes and 28 rows", &networks::streets(20, 28));
     compare_lists(
         "complete, 8 nodes, 2 must, 4 barred",
         &networks::with_states(networks::complete(8, &[0]), 2, 4),
@@ -200,6 +242,15 @@ fn tables() {
         "ladder of 12, 3 must, 2 barred",
         &networks::with_states(networks::ladder(12, &[0]), 3, 2),
     );
+    println!();
+    println!("Page: a page of one tree, nanoseconds a call");
+    println!("{:36} {:>12} {:>12}", "", "from the first", "behind it");
+    short_page(
+        "complete graph of 8 nodes, 28 rows",
+        &networks::complete(8, &[0]),
+    );
+    short_page("streets, 20 nodes and 28 rows", &networks::streets(20, 28));
+    short_page("line of 32 nodes by 8 rows each", &networks::line(32, 8));
     println!();
     println!("Page: the first page, milliseconds a call (plain Rust does not look ahead and would not end)");
     println!(

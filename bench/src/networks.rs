@@ -54,6 +54,27 @@ pub fn line(n: u8, beside: usize) -> Network {
     costed(shapes::line(&vec![beside; n as usize - 1]), &[0])
 }
 
+/// Streets: each node joined to one of the three before it, and rows between nodes that are at most four apart; no two rows beside each other.
+pub fn streets(n: u8, m: usize) -> Network {
+    let rng = &mut Rng::new(77);
+    let mut pairs: Vec<[u8; 2]> = (2..=n)
+        .map(|b| {
+            [
+                rng.between((b as usize).saturating_sub(3).max(1), b as usize - 1) as u8,
+                b,
+            ]
+        })
+        .collect();
+    while pairs.len() < m {
+        let a = rng.between(1, n as usize) as u8;
+        let b = a + rng.between(1, 4) as u8;
+        if b <= n && !pairs.contains(&[a, b]) {
+            pairs.push([a, b]);
+        }
+    }
+    costed(shapes::with_rows(n, &pairs), &[0])
+}
+
 /// The same network with so many must rows, all of one spanning tree, and so many barred rows beside that tree.
 pub fn with_states(network: Network, musts: usize, barred: usize) -> Network {
     let tree = draw::forest(&mut Rng::new(1), &network);

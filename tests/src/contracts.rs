@@ -62,7 +62,7 @@ fn braced(text: &str) -> &str {
     panic!("a brace is not closed: {text}")
 }
 
-/// The public functions of a source file. A clause stands on a line of its own, and the body opens on the line after.
+/// The public functions of a source file. A clause begins on a line of its own, and the body opens on the line after the last.
 pub fn functions(source: &str) -> Vec<Function> {
     let mut found = Vec::new();
     let mut rest = source;
@@ -86,14 +86,23 @@ pub fn functions(source: &str) -> Vec<Function> {
             })
             .collect();
         let (mut requires, mut ensures) = (Vec::new(), Vec::new());
-        for line in head[close..].lines().map(str::trim) {
-            if line.starts_with("requires ") {
-                requires.push(braced(line).to_string());
-            } else if line.starts_with("ensures ") {
-                ensures.push(braced(line).to_string());
-            } else if line == "{" || line.ends_with(" {") {
-                break;
-            }
+        let mut clauses = &head[close..];
+        loop {
+            let (line, behind) = clauses.split_once('\n').unwrap_or((clauses, ""));
+            let line = line.trim();
+            let kept = match line.split(' ').next() {
+                Some("requires") => &mut requires,
+                Some("ensures") => &mut ensures,
+                _ if line == "{" || line.ends_with(" {") || behind.is_empty() => break,
+                _ => {
+                    clauses = behind;
+                    continue;
+                }
+            };
+            let clause = braced(clauses);
+            kept.push(clause.split_whitespace().collect::<Vec<_>>().join(" "));
+            clauses = &clauses[clauses.find(clause).unwrap() + clause.len()..];
+            clauses = clauses.split_once('}').unwrap().1;
         }
         found.push(Function {
             name: head[..open].to_string(),

@@ -1,5 +1,5 @@
 -- The tables of an accepted file fit the search: they are those of its network (`tabled`) and of the graph without the barred rows (`tables-in`, `same-graph`); the must rows
--- are the network's (`must-rows`), make no ring and are at most 31 where there is a tree (`musts-forest`, `musts-all`); the free rows are the others that lie between
+-- are those with an end among the must rows' (`musts-on`), make no ring and are at most 31 where there is a tree (`musts-forest`); the free rows are the others that lie between
 -- nodes (`free-lie`, `free-all`, on any tables); and every tree is inside limits above 31,000,000 (`under-limits`, `under-top`).
 use mathlib.Core.Path.{_∙_, _≡_, ap, ap₂, refl, subst, sym}
 use mathlib.Core.Logic.{_↔_}
@@ -11,7 +11,7 @@ use native.Mathlib.Decide.{decLt}
 use native.Mathlib.Omega.{arith}
 use lib.Dec.{T, eqb, eqb→eq, leb, leb→le, ltb, ltb→lt, le→leb, lt→ltb}
 use lib.ListN.{List·getD-eq-default, getD, length, length-map, take}
-use lib.Seq.{ext-getD, getD-take, length-take-le, take-all}
+use lib.Seq.{ext-getD, getD-take, length-take-le}
 use borrow.Author.Tests.{eq-eqb, lt-ltb, ne-eqb}
 use Rattle.lists.specs.Lists.{both, filterB, keepIf, pick, range}
 use Rattle.lists.proofs.Ascending.{at-getD, getD-mem}
@@ -24,18 +24,18 @@ use Rattle.graph.specs.Graph.{isTree}
 use Rattle.graph.proofs.Minimal.{minimal-parts}
 use Rattle.graph.proofs.Tree.{tree-out}
 use Rattle.costs.specs.Costs.{costAt, costOf}
-use Rattle.costs.specs.Layouts.{mustEnd, mustFirsts, mustRows, openEnd}
+use Rattle.costs.specs.Layouts.{mustRows, openEnd}
 use Rattle.costs.specs.Network.{Kind, Row, added, closing, worst}
 use Rattle.costs.proofs.Layouts.{keeps-out, layouts-mem, must-distinct}
 use Rattle.costs.proofs.Networks.{cost-length}
 use Rattle.forests.proofs.Forest.{Forest}
 use Rattle.forests.proofs.Joined.{Lies}
 use Rattle.bounds.proofs.Limits.{costs-most}
-use Rattle.states.specs.States.{mustRow}
-use Rattle.states.proofs.Open.{forest-open, layouts-exist, musts-of}
+use Rattle.states.specs.States.{mustRow, mustsOf}
+use Rattle.states.proofs.Open.{forest-open, layouts-exist}
 use Rattle.network_file.specs.File.{byteAt, networkOf, sizesOf}
 use Rattle.network_file.specs.File as file
-use Rattle.network_file.proofs.Accepted.{Accepted, row-in, rows-length}
+use Rattle.network_file.proofs.Accepted.{Accepted, rows-length}
 use Rattle.operations.specs.Operations.{layoutsIn, openIn}
 use Rattle.operations.proofs.Files.{formed, node-count, open-formed-in}
 use Rattle.completions.specs.Boxes.{inside}
@@ -146,31 +146,21 @@ has-end : (x : ℕ) → ltb 0 x ≡ not (eqb x 0)
 has-end zero = refl
 has-end (suc x) = rw (lt-ltb 0 (suc x) (omega arith), ne-eqb (suc x) 0 (λ e. omega arith))
 
-module _ (f : List ℕ) (a : Accepted f) where
-  pub must-rows : mustsIn (mustFirsts (networkOf f)) ≡ mustRows (networkOf f)
-  unfolding rowsOn mustRow
-  must-rows =
-      let heads = mustFirsts (networkOf f) in
-      let long : length heads ≡ sizesOf f .m = length-map (networkOf f .rows) (λ (row : Row). mustEnd row (row .firstEnd)) ∙ rows-length f in
-      filter-cut (isOn heads) (length heads) 256 0 (omega (arith, long, a .rows-high))
-      (λ r h t. omega (arith, ltb→lt 0 (getD heads r 0) t, List·getD-eq-default heads 0 {n = r} (omega arith)))
-      ∙ filter-same (isOn heads) (mustRow heads) (range 0 (length heads)) (λ r i. has-end (getD heads r 0))
-      ∙ musts-of (networkOf f) (λ r low e.
-      let known : r < sizesOf f .m = omega (arith, rows-length f) in
-      omega (arith, a .ends r known .first-low, ap (λ (row : Row). row .firstEnd) (row-in f r known)))
+-- of at most 256 rows, those that have an end there are the must rows
+pub musts-on : (heads : List ℕ) → length heads ≤ 256 → mustsIn heads ≡ mustsOf heads
+unfolding rowsOn mustRow
+musts-on heads few =
+    filter-cut (isOn heads) (length heads) 256 0 few
+    (λ r h t. omega (arith, ltb→lt 0 (getD heads r 0) t, List·getD-eq-default heads 0 {n = r} (omega arith)))
+    ∙ filter-same (isOn heads) (mustRow heads) (range 0 (length heads)) (λ r i. has-end (getD heads r 0))
 
-  module _ (p : List ℕ) (listed : p ∈ layoutsIn f) where
-    pub musts-forest : Forest (openIn f) (mustRows (networkOf f)) × (length (mustRows (networkOf f)) ≤ 31)
-    musts-forest =
-        let w = networkOf f in
-        let (minimal, keeps) = layouts-mem w (formed f a) p .0 listed in (
-          forest-open w .0 (layouts-exist w (formed f a) .0 (p, listed) .1),
-          omega (arith, pigeonhole (mustRows w) (must-distinct w) (keeps-out w p keeps .0), minimal-parts _ p minimal .0, node-count f, a .nodes-high),
-        )
-
-    -- so all of them are read
-    pub musts-all : take 31 (mustsIn (mustFirsts (networkOf f))) ≡ mustRows (networkOf f)
-    musts-all = ap (take 31) must-rows ∙ take-all 31 (mustRows (networkOf f)) (musts-forest .1)
+pub musts-forest : (f : List ℕ) → Accepted f → (p : List ℕ) → p ∈ layoutsIn f → Forest (openIn f) (mustRows (networkOf f)) × (length (mustRows (networkOf f)) ≤ 31)
+musts-forest f a p listed =
+    let w = networkOf f in
+    let (minimal, keeps) = layouts-mem w (formed f a) p .0 listed in (
+      forest-open w .0 (layouts-exist w (formed f a) .0 (p, listed) .1),
+      omega (arith, pigeonhole (mustRows w) (must-distinct w) (keeps-out w p keeps .0), minimal-parts _ p minimal .0, node-count f, a .nodes-high),
+    )
 
 -- The free rows
 

@@ -88,7 +88,8 @@ fn accepted_count(file: &[u8], header: Header) -> CountAnswer
     ensures { λ r. ⌜ countedOf r ≡ countCall (now (file .entry)) ⌝ }
 {
     // without a tree nothing is counted: a network in two parts would be searched to its end
-    let listed = listed::listed(file);
+    let mut chart = [0u64; chart::LENGTH];
+    let listed = listed::listed(file, &mut chart);
     let Opened::Header(_) = listed else {
         return CountAnswer::Trees(0);
     };

@@ -1,14 +1,14 @@
--- What `drawn` comes to by Open's answer (`open-stops`, `tried-drawn`), then by the states (`tree-stops`, `states-broken`, `states-kept`), and what its callers learn from its number: the first check that
+-- What `drawn` comes to by Open's answer (`open-stops`, `tried-drawn`), and what its callers learn from its number: the first check that
 -- is not met (`refused-by`), or that all are met and the path is the tree's (`answered-by`); and a call's end with check 11 and others behind
 -- (`call-refused`, `call-short`, `call-rest`, `call-stops`, `call-met`).
 use mathlib.Core.Path.{_∙_, _≡_, ap, refl, subst, sym}
 use mathlib.Core.Bool.{Bool, false, true}
 use mathlib.Core.Option.{Option, none, some}
-use mathlib.Core.List.{List, [], _++_, _∷_, map, List·Memᴰ·head as here, List·Memᴰ·tail as there, Memᴰ·append-right as append-right}
-use Prim.Native.Nat.{_-_, _≤_, pred, ℕ}
+use mathlib.Core.List.{List, _++_, _∷_, map, List·Memᴰ·head as here, List·Memᴰ·tail as there, Memᴰ·append-right as append-right}
+use Prim.Native.Nat.{pred, ℕ}
 use native.Mathlib.Omega.{arith}
 use lib.Dec.{T, eqb, ltb, ltb→lt}
-use lib.ListN.{length, length-map, take}
+use lib.ListN.{length}
 use borrow.Author.Tests.{eqb-true}
 use Rattle.lists.specs.Lists.{all}
 use Rattle.lists.proofs.Members.{_∈_, all-out}
@@ -23,27 +23,21 @@ use Rattle.checks.proofs.Checks.{firstUnmet-append, firstUnmet-met, firstUnmet-
 use Rattle.checks.proofs.Ended.{ended-answered, ended-met, ended-refused, ended-same, ended-unmet, firstUnmet-stops, unmet-parts}
 use Rattle.costs.specs.Layouts.{keepsStates}
 use Rattle.bounds.proofs.Missing.{rows-map}
-use Rattle.network_file.specs.File.{Sizes, fileChecks, networkOf, openOf, sizesOf}
+use Rattle.network_file.specs.File.{Sizes, fileChecks, networkOf, openOf}
 use Rattle.network_file.proofs.Accepted.{Accepted, accepted}
 use Rattle.network_file.proofs.Opened.{open-answered, open-refused}
 use Rattle.operations.specs.Operations.{check, drawnChecks, graphIn, treeChecks}
-use Rattle.operations.proofs.Files.{formed, node-count}
-use Rattle.ends.specs.Ends.{endsBy, nodesWord}
-use Rattle.ends.specs.declared.Rows.the-variants.{All}
-use Rattle.ends.proofs.Ends.{first-part, nodes-graph, nodes-has, second-part}
+use Rattle.operations.proofs.Files.{formed}
+use Rattle.chart.specs.Chart.{Blank, fileChartOn}
 use Rattle.paths.specs.Path.{keysOf, rowsIn}
-use Rattle.tried.specs.Answers.{PathSteps, drawnOf, keysIn, minimalSteps, noSteps}
+use Rattle.tried.specs.Answers.{PathSteps, drawnOf, keysIn, noSteps}
 use Rattle.tried.specs.Tried.{triedOf}
 use Rattle.tried.specs.declared.DrawnAnswer.{DrawnAnswer}
 use Rattle.tried.proofs.Laws.{outcome-answered, outcome-refused}
-use Rattle.tried.proofs.Trees.{Fits, tried-checks}
+use Rattle.tried.proofs.Files.{tried-file}
 use Rattle.drawn.specs.Answers.{drawnCall, drawnTable}
 
 -- By Open's answer
-
--- checks 8, 9 and 10 alone
-abbrev pub treeCall : List ℕ → List ℕ → Ended (Unit {0}) PathSteps
-treeCall f rows = ended (treeChecks (graphIn f) rows) tt noSteps (minimalSteps (graphIn f) rows)
 
 -- Open's refusals are numbered from 1
 numbered : (f : List ℕ) (e : ℕ) → firstUnmet (fileChecks f) ≡ some e → ¬ (e ≡ 0)
@@ -60,63 +54,13 @@ open-stops f rows e h =
     let stop = open-refused f e h in
     (ended-unmet (drawnTable f rows) tt noSteps _ e (firstUnmet-stops (fileChecks f) (drawnChecks (networkOf f) rows) e stop), numbered f e stop)
 
-file-fits : (f : List ℕ) → Accepted f → Fits (graphIn f) (sizesOf f .n) (nodesWord (sizesOf f .n))
-file-fits f a = record {
-  formed = formed f a;
-  low = λ v m. nodes-has (sizesOf f .n) v (omega (arith, a .nodes-high)) .0 (nodes-graph f a v .1 m) .1;
-  small = a .nodes-high;
-  word = nodes-graph f a;
-  room = omega (arith, node-count f, a .nodes-high);
-  few = omega (arith, length-map (networkOf f .rows) (λ r. r .firstEnd), a .rows, a .rows-high);
-}
-
-module _ (f : List ℕ) (s : Sizes) (h : openOf f ≡ answered s) where
-  met : (firstUnmet (fileChecks f) ≡ none) × (sizesOf f ≡ s)
-  met = open-answered f s h
-
-  pub opened : 2 ≤ s .n
-  opened = let a = accepted f (met .0) in subst (λ (s : Sizes). 2 ≤ s .n) (met .1) (a .nodes-low)
-
-  -- the code passes what Open answers
-  pub tried-drawn : (rows firsts seconds : List ℕ) (nodes : ℕ) → firsts ≡ endsBy (λ row. row .firstEnd) f → seconds ≡ endsBy (λ row. row .secondEnd) f
-      → nodes ≡ nodesWord (s .n) → triedOf (take (s .m) firsts) (take (s .m) seconds) (s .n) 1 nodes (s .n - 1) rows ≡ treeCall f rows
-  tried-drawn rows firsts seconds nodes e1 e2 e3 =
-      let a = accepted f (met .0) in
-      let wide : sizesOf f .n - 1 ≡ pred (length (graphIn f .nodes)) = omega (arith, node-count f) in
-      rw (e1, e2, e3, ← (met .1), first-part All f a, second-part All f a, wide) (tried-checks (file-fits f a) rows)
-
-  -- and then asks for the states
-  module _ (rows : List ℕ) (d : DrawnAnswer) (asked : drawnOf d ≡ treeCall f rows) where
-    abbrev kept : Bool
-    kept = keepsStates (networkOf f) rows
-
-    behind : firstUnmet (drawnTable f rows) ≡ firstUnmet (drawnChecks (networkOf f) rows)
-    behind = firstUnmet-append (fileChecks f) (drawnChecks (networkOf f) rows) (met .0)
-
-    pub tree-stops : ¬ (d .number ≡ 0) → drawnOf d ≡ drawnCall f rows
-    unfolding drawnCall drawnChecks
-    tree-stops n =
-        let stop = ended-refused (treeChecks (graphIn f) rows) tt noSteps _ (d .number) (outcome-refused d asked n) in
-        asked ∙ ended-unmet (treeChecks (graphIn f) rows) tt noSteps _ (d .number) stop
-        ∙ sym (ended-unmet (drawnTable f rows) tt noSteps _ (d .number) (behind ∙ firstUnmet-stops (treeChecks (graphIn f) rows) (check 15 kept ∷ []) (d .number) stop))
-
-    module _ (z : d .number ≡ 0) where
-      tree : firstUnmet (treeChecks (graphIn f) rows) ≡ none
-      tree = ended-answered (treeChecks (graphIn f) rows) tt noSteps _ tt (outcome-answered d asked z) .0
-
-      fifteen : firstUnmet (drawnTable f rows) ≡ firstUnmet (check 15 kept ∷ [])
-      unfolding drawnChecks
-      fifteen = behind ∙ firstUnmet-append (treeChecks (graphIn f) rows) (check 15 kept ∷ []) tree
-
-      pub states-broken : kept ≡ false → drawnCall f rows ≡ record { outcome = refused 15; buffers = noSteps }
-      unfolding drawnCall
-      states-broken e = ended-unmet (drawnTable f rows) tt noSteps _ 15 (fifteen ∙ firstUnmet-unmet (check 15 kept) [] e)
-
-      pub states-kept : kept ≡ true → drawnOf d ≡ drawnCall f rows
-      unfolding drawnCall firstUnmet
-      states-kept e =
-          asked ∙ ended-met (treeChecks (graphIn f) rows) tt noSteps _ tree
-          ∙ sym (ended-met (drawnTable f rows) tt noSteps _ (fifteen ∙ firstUnmet-met (check 15 kept) [] e))
+-- Open has answered: the rows are tried in the file's chart
+pub tried-drawn : (f : List ℕ) (s : Sizes) → openOf f ≡ answered s → (c : List ℕ) → Blank c → (rows : List ℕ) → triedOf (fileChartOn f c) rows ≡ drawnCall f rows
+unfolding drawnCall
+tried-drawn f s h c empty rows =
+    let met = open-answered f s h .0 in
+    tried-file f (accepted f met) c empty rows
+    ∙ ended-same (drawnChecks (networkOf f) rows) (drawnTable f rows) tt noSteps _ (sym (firstUnmet-append (fileChecks f) (drawnChecks (networkOf f) rows) met))
 
 -- By the code's answer
 

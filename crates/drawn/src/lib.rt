@@ -1,10 +1,9 @@
 //! Rows drawn in a network file: whether they are a spanning tree of it that keeps the rows' states, and the tree's minimal path.
-//! The states are asked last: all must rows are drawn, and no barred row.
+//! The file is charted once, and the rows are tried in its chart.
 ghost use mathlib.Core.Path.{_≡_};
 ghost use Rattle.network.specs.Answers.{openedOf};
 ghost use Rattle.tried.specs.Answers.{drawnOf};
 ghost use Rattle.drawn.specs.Answers.{drawnCall, numberOf};
-use ends::Rows;
 use network::Opened;
 use tried::DrawnAnswer;
 
@@ -22,21 +21,10 @@ pub fn drawn(file: &[u8], rows: &[u16]) -> DrawnAnswer
     ensures { λ r. ⌜ drawnOf r ≡ drawnCall (now (file .entry)) (now (rows .entry)) ⌝ }
 {
     let opened = network::open(file);
-    let Opened::Header(header) = opened else {
+    let Opened::Header(_) = opened else {
         return tried::refused(number_of(opened));
     };
-    let all = ends::ends_of(file, Rows::All);
-    let firsts = all.firsts;
-    let seconds = all.seconds;
-    let nodes = ends::nodes_word(header.n);
-    let width = header.n as usize - 1;
-    let answer = tried::tried(firsts, seconds, header.m, header.n, 1, nodes, width, rows);
-    let number = answer.number;
-    if number != 0 {
-        return answer;
-    }
-    if !row_states::states_kept(file, rows) {
-        return tried::refused(15);
-    }
-    answer
+    let mut chart = [0u64; chart::LENGTH];
+    chart::of_file(file, &mut chart);
+    tried::tried(&chart, rows)
 }

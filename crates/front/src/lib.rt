@@ -4,22 +4,22 @@ ghost use mathlib.Core.Path.{_≡_};
 ghost use Prim.Native.Nat.{_≤_};
 ghost use Rattle.fronted.specs.Answers.{frontedOf};
 ghost use Rattle.operations.specs.Operations.{frontCall};
-use ends::Rows;
 use fronted::FrontAnswer;
 
 // How many rows have an end at v.
-fn degree(firsts: [u8; 256], seconds: [u8; 256], v: u8) -> u64
+fn degree(chart: &[u64; chart::LENGTH], v: u8) -> u64
     ensures { λ r. ⌜ r ≤ 256 ⌝ }
 {
+    let m = chart::row_count(chart);
     let mut count: u64 = 0;
     let mut r: usize = 0;
-    while r < 256 {
+    while r < m {
         let at = r;
         r += 1;
-        if firsts[at] == v {
+        if chart::first_end(chart, false, at) == v {
             count += 1;
         } else {
-            if seconds[at] == v {
+            if chart::second_end(chart, false, at) == v {
                 count += 1;
             }
         }
@@ -44,14 +44,14 @@ fn most_walked(k: u8) -> u64
 fn has_few_trees(file: &[u8]) -> bool {
     let header = fields::header_of(file);
     let most = most_walked(header.k);
-    let open = ends::ends_of(file, Rows::Unbarred);
-    let firsts = open.firsts;
-    let seconds = open.seconds;
+    let mut chart = [0u64; chart::LENGTH];
+    chart::of_file(file, &mut chart);
+    let n = chart::limit(&chart);
     let mut product: u64 = 1;
     let mut v: u8 = 1;
-    while v < header.n {
+    while v < n {
         v += 1;
-        product = product * degree(firsts, seconds, v);
+        product = product * degree(&chart, v);
         if most < product {
             return false;
         }

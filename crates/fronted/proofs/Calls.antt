@@ -4,7 +4,7 @@ use mathlib.Core.Path.{_∙_, _≡_, ap, refl, sym}
 use mathlib.Core.Bool.{_&&_}
 use mathlib.Core.Option.{none, some}
 use mathlib.Core.List.{List, [], _++_, _∷_, append-assoc}
-use Prim.Native.Nat.{_-_, _/_, _<_, _≤_, min, ℕ}
+use Prim.Native.Nat.{_-_, _/_, _<_, _≤_, min, pred, ℕ}
 use lib.Dec.{leb}
 use native.Mathlib.Omega.{arith}
 use lib.ListN.{length}
@@ -17,10 +17,10 @@ use Rattle.network_file.specs.File.{Sizes, fileChecks, networkOf, sizesOf}
 use Rattle.pages.specs.Pages.{capacity}
 use Rattle.pages.proofs.Pages.{rows-end}
 use Rattle.operations.specs.Operations.{FrontTables, Fronted, check, frontCall, frontChecks, frontOver, graphIn, layoutsIn, someTree}
+use Rattle.operations.proofs.Files.{node-count}
 use Rattle.fronted.specs.Filled.{Filled, Holding}
 use Rattle.listed.specs.Listed.{listedChecks}
 use Rattle.listed.proofs.Answers.{Lists}
-use Rattle.page.proofs.Given.{width-read}
 
 no-check : firstUnmet [] ≡ none
 unfolding firstUnmet
@@ -57,22 +57,25 @@ module _ (f costs witnesses : List ℕ) where
     criteria-read : sizesOf f .k ≡ h .k
     criteria-read = ap (λ (s : Sizes). s .k) (sym (l .sizes))
 
+    width-read : h .n - 1 ≡ width (graphIn f)
+    width-read = let w : h .n - 1 ≡ pred (length (graphIn f .nodes)) = omega (arith, ap (λ (s : Sizes). s .n) (l .sizes), node-count f) in w
+
     pub front-costs : length costs < h .k → Right (refused 11) costs witnesses
     front-costs less = refuse 11 (behind-listed (firstUnmet-unmet _ _ (rw (criteria-read, lt-leb _ _ less))))
 
     module _ (costs-fit : h .k ≤ length costs) where
       pub front-witnesses : length witnesses < h .n - 1 → Right (refused 11) costs witnesses
-      front-witnesses less = refuse 11 (behind-listed (firstUnmet-unmet _ _ (rw (criteria-read, le-leb _ _ costs-fit, ← width-read l, lt-leb _ _ less))))
+      front-witnesses less = refuse 11 (behind-listed (firstUnmet-unmet _ _ (rw (criteria-read, le-leb _ _ costs-fit, ← width-read, lt-leb _ _ less))))
 
       all-met : h .n - 1 ≤ length witnesses → firstUnmet (frontChecks f costs witnesses) ≡ none
       all-met fits =
-          behind-listed (firstUnmet-met _ _ (rw (criteria-read, le-leb _ _ costs-fit, ← width-read l, le-leb _ _ fits)) ∙ no-check)
+          behind-listed (firstUnmet-met _ _ (rw (criteria-read, le-leb _ _ costs-fit, ← width-read, le-leb _ _ fits)) ∙ no-check)
 
       pub front-filled : h .n - 1 ≤ length witnesses → (rows : ℕ) → rows ≡ min (length costs / h .k) (length witnesses / (h .n - 1))
           → (o : Outcome Fronted) (costs′ witnesses′ : List ℕ) → Filled f rows costs witnesses o costs′ witnesses′ → Right o costs′ witnesses′
       unfolding frontCall frontOver capacity
       front-filled fits rows e o costs′ witnesses′ filled =
-          let same : min (length costs / length (networkOf f .kinds)) (length witnesses / width (graphIn f)) ≡ rows = rw (l .file .kinds, criteria-read, ← width-read l) (sym e) in
+          let same : min (length costs / length (networkOf f .kinds)) (length witnesses / width (graphIn f)) ≡ rows = rw (l .file .kinds, criteria-read, ← width-read) (sym e) in
           rw (filled .answer, filled .costs-are, filled .witnesses-are, ← same) (sym (ended-met (frontChecks f costs witnesses) _ lent _ (all-met fits)))
 
 module _ {f : List ℕ} {h : Sizes} (l : Lists f h) where

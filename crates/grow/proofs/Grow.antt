@@ -1,6 +1,7 @@
 -- Growing in the theory of growing paths: the words of fresh nodes stay right (`ready-after`, `ready-back`, `fresh-ready`), what `growOf` adds are
 -- least legal steps (`grow-steps`), of a live state the least completion (`grow-least`), and `openPast` says what is still reached (`open-past`).
 use mathlib.Core.Path.{_∙_, _≡_, ap, refl, subst, sym}
+use mathlib.Core.Bool.{false}
 use mathlib.Core.Logic.{_↔_, _⊎_, inl, inr, ⊎-elim}
 use mathlib.Core.Option.{Option, none, some}
 use mathlib.Core.List.{List, [], _++_, _∷_, append-nil, map-append, List·Memᴰ·not-nil as mem-nil}
@@ -24,9 +25,10 @@ use Rattle.graph.proofs.Minimal.{sound-start}
 use Rattle.graph.proofs.Walk.{Leasts, Legals, least-all, leasts-legal, leasts-live, sound-walk, stateAfter, stateAfter-length}
 use Rattle.words.specs.Words.{bit, has, minus}
 use Rattle.words.proofs.Words.{bit-in, bit-out, has-minus, has-or}
-use Rattle.spread.proofs.Ready.{Charted, Ready}
+use Rattle.chart.proofs.Charts.{Charted, Charts, Ready, few}
+use Rattle.chart.specs.Chart.{graphIn, limitIn, nearIn}
 use Rattle.spread.proofs.Spreads.{spread-reaches}
-use Rattle.search.specs.Search.{firstStepOf}
+use Rattle.search.specs.Search.{stepIn}
 use Rattle.search.proofs.First.{first-least, first-none}
 use Rattle.paths.specs.Path.{enteredBy, extendedBy, nodesOf}
 use Rattle.grow.specs.Grow.{freshAfter, growOf, kept, openPast}
@@ -125,12 +127,21 @@ pub record Completed (g : Graph) (s : State) (keys answer : List Key) : Type 0 w
   pub whole : answer ≡ keys ++ more
   pub least : LeastCompletion g (rowNumbers g) s more
 
-module _ {g : Graph} {nb : List ℕ} {limit : ℕ} (charted : Charted g nb limit) where
+module _ {c : List ℕ} (right : Charts c) where
+  abbrev g : Graph
+  g = graphIn c
+
+  abbrev charted : Charted (graphIn c) (nearIn false c) (limitIn c)
+  charted = right .charted
+
+  short : length (graphIn c .firstEnds) ≤ 65536
+  short = omega (arith, few c)
+
   abbrev grow : State → ℕ → ℕ → List Key → List Key
-  grow s steps fresh keys = growOf nb (g .firstEnds) (g .secondEnds) limit (g .plant) steps fresh keys (s .place) (s .node)
+  grow s steps fresh keys = growOf c (g .plant) steps fresh keys (s .place) (s .node)
 
   abbrev find : State → ℕ → Option Key
-  find s fresh = firstStepOf nb (g .firstEnds) (g .secondEnds) limit fresh (s .entered) (s .place) (s .node)
+  find s fresh = stepIn c false fresh (s .entered) (s .place) (s .node)
 
   -- a path with no step more, and with one
   grown-still : (s : State) (steps : ℕ) (keys answer : List Key) → answer ≡ keys
@@ -146,37 +157,37 @@ module _ {g : Graph} {nb : List ℕ} {limit : ℕ} (charted : Charted g nb limit
     ends = ⊎-elim (λ e. inl (ap suc e)) inr (o .ends);
   }
 
-  pub grow-steps : length (g .firstEnds) ≤ 65536 → (steps : ℕ) (keys : List Key) {s : State} {fresh : ℕ}
+  pub grow-steps : (steps : ℕ) (keys : List Key) {s : State} {fresh : ℕ}
       → s .entered ≡ enteredBy (g .plant) keys → Ready g s fresh → length keys + steps ≤ 31
-      → Grown g s keys (growOf nb (g .firstEnds) (g .secondEnds) limit (g .plant) steps fresh keys (s .place) (s .node)) steps
-  grow-steps few zero keys {s} {fresh} e r room = grown-still s 0 keys (grow s 0 fresh keys) (grow-over _ _ _ _ _ 0 fresh keys _ _ refl) (inl refl)
-  grow-steps few (suc steps) keys {s} {fresh} e r room =
+      → Grown (graphIn c) s keys (growOf c (graphIn c .plant) steps fresh keys (s .place) (s .node)) steps
+  grow-steps zero keys {s} {fresh} e r room = grown-still s 0 keys (grow s 0 fresh keys) (grow-over _ _ 0 fresh keys _ _ refl) (inl refl)
+  grow-steps (suc steps) keys {s} {fresh} e r room =
       turn (find s fresh) refl
-      (λ k h. grow-steps few steps (keys ++ (k ∷ [])) (entered-step keys k e) (ready-after charted r h) (omega (arith, length-append keys (k ∷ []))))
+      (λ k h. grow-steps steps (keys ++ (k ∷ [])) (entered-step keys k e) (ready-after charted r h) (omega (arith, length-append keys (k ∷ []))))
     where
       turn : (o : Option Key) → find s fresh ≡ o
           → ((k : Key) → Legal g (rowNumbers g) s k
           → Grown g (after s k) (keys ++ (k ∷ [])) (grow (after s k) steps (minus fresh (bit (k .node))) (keys ++ (k ∷ []))) steps)
           → Grown g s keys (grow s (suc steps) fresh keys) (suc steps)
       turn none d later =
-          grown-still s (suc steps) keys (grow s (suc steps) fresh keys) (grow-none _ _ _ _ _ (suc steps) fresh keys _ _ (omega arith) e refl d)
-          (inr (first-none charted r d))
+          grown-still s (suc steps) keys (grow s (suc steps) fresh keys) (grow-none _ _ (suc steps) fresh keys _ _ (omega arith) e refl d)
+          (inr (first-none charted (right .headed) r d))
       turn (some k) d later =
-          let h = first-least charted r k d in
+          let h = first-least charted (right .headed) r k d in
           let left : suc steps - 1 ≡ steps = omega arith in
-          rw (grow-some _ _ _ _ _ (suc steps) fresh keys _ _ k (omega arith) e refl d, step-kept keys few e (omega arith) (h .legal), left)
+          rw (grow-some _ _ (suc steps) fresh keys _ _ k (omega arith) e refl d, step-kept keys short e (omega arith) (h .legal), left)
           (grown-cons s steps keys _ k h (later k (h .legal)))
 
   -- enough steps from a live state complete it
-  pub grow-least : length (g .firstEnds) ≤ 65536 → (steps : ℕ) (keys : List Key) {s : State} {fresh : ℕ}
+  pub grow-least : (steps : ℕ) (keys : List Key) {s : State} {fresh : ℕ}
       → s .entered ≡ enteredBy (g .plant) keys → Ready g s fresh → length keys + steps ≤ 31
       → Live g (rowNumbers g) s → length (g .nodes) ≤ length (s .entered) + steps
-      → Completed g s keys (growOf nb (g .firstEnds) (g .secondEnds) limit (g .plant) steps fresh keys (s .place) (s .node))
-  grow-least few steps keys {s} {fresh} e r room live enough =
+      → Completed (graphIn c) s keys (growOf c (graphIn c .plant) steps fresh keys (s .place) (s .node))
+  grow-least steps keys {s} {fresh} e r room live enough =
       record { more = o .more; whole = o .whole; least = least-all g (rowNumbers g) s (o .more) (o .least) (⊎-elim full stuck (o .ends)) }
     where
       o : Grown g s keys (grow s steps fresh keys) steps
-      o = grow-steps few steps keys e r room
+      o = grow-steps steps keys e r room
 
       end : State
       end = stateAfter s (o .more)
@@ -194,7 +205,7 @@ module _ {g : Graph} {nb : List ℕ} {limit : ℕ} (charted : Charted g nb limit
 
   -- whether a node is still reached once the bound is moved up to a step to it
   pub open-past : {s : State} {fresh : ℕ} (keys : List Key) (place node : ℕ) → s .entered ≡ enteredBy (g .plant) keys → Ready g s fresh
-      → T (openPast nb limit (g .plant) fresh keys place node) ↔ Reaches g (rowNumbers g) (bound s place node) node
+      → T (openPast c (graphIn c .plant) fresh keys place node) ↔ Reaches g (rowNumbers g) (bound s place node) node
   unfolding openPast
   open-past {s} {fresh} keys place node e r =
-      rw (← e) (spread-reaches g nb limit charted (bound s place node) fresh (ready-bound place node r) node)
+      rw (← e) (spread-reaches g (nearIn false c) (limitIn c) charted (bound s place node) fresh (ready-bound place node r) node)

@@ -1,2 +1,2 @@
+pub mod Musts
 pub mod Answers
-pub mod Given

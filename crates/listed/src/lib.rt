@@ -1,85 +1,81 @@
 //! Open, and then check 12: whether the network has a tree, with all must rows and no barred row.
-//! The first path with all must rows is grown over the rows that are not barred; it has all nodes and all must rows exactly if there is a tree.
+//! The first path with all must rows is grown over the chart; it has all nodes and all must rows exactly if there is a tree.
 ghost use mathlib.Core.Path.{_≡_};
-ghost use Rattle.lists.specs.Lists.{hasAll};
-ghost use Rattle.costs.specs.Layouts.{mustRows};
+ghost use mathlib.Core.Bool.{true};
+ghost use mathlib.Core.Option.{none};
+ghost use Rattle.lists.specs.Lists.{hasAll, member, pick};
+ghost use Rattle.checks.specs.Checks.{firstUnmet};
+ghost use Rattle.chart.specs.Chart.{Blank, fileChartOn, firstsIn, mustsIn};
 ghost use Rattle.network.specs.Answers.{openedOf};
-ghost use Rattle.network_file.specs.File.{networkOf};
-ghost use Rattle.paths.specs.Path.{keysOf, plantOf, rowsIn};
-ghost use Rattle.listed.specs.Listed.{firstFrom, listedCall};
-use ends::Rows;
+ghost use Rattle.network_file.specs.File.{fileChecks};
+ghost use Rattle.paths.specs.Path.{rowsIn};
+ghost use Rattle.states.specs.States.{mustRow};
+ghost use Rattle.listed.specs.Listed.{listedCall};
 use network::Opened;
 use paths::Path;
 
-// The first path that is grown with all must rows; `heads` and `tails` are their ends.
-fn first_path(
-    firsts: &[u8],
-    seconds: &[u8],
-    heads: &[u8],
-    tails: &[u8],
-    limit: u8,
-    plant: u8,
-    nodes: u64,
-    width: usize,
-) -> Path
-    ensures { λ r. ⌜ (plantOf r ≡ plant) × (keysOf r ≡ firstFrom (now (firsts .entry)) (now (seconds .entry)) (now (heads .entry)) (now (tails .entry)) limit plant nodes width) ⌝ }
+// Whether a row is among the rows.
+fn among(rows: &[u16], row: usize) -> bool
+    ensures { λ r. ⌜ r ≡ member row (now (rows .entry)) ⌝ }
 {
-    let neighbours = spread::neighbours(firsts, seconds);
-    let claims = spread::neighbours(heads, tails);
-    grow::first_path(
-        &neighbours,
-        firsts,
-        seconds,
-        &claims,
-        heads,
-        tails,
-        limit,
-        plant,
-        nodes,
-        width,
-    )
+    let mut i: usize = 0;
+    while i < rows.len() {
+        if rows[i] as usize == row {
+            return true;
+        }
+        i += 1;
+    }
+    false
+}
+
+// Whether a row is no must row, or among the rows.
+fn dug(chart: &[u64; chart::LENGTH], rows: &[u16], row: usize) -> bool
+    ensures { λ r. ⌜ r ≡ pick (mustRow (firstsIn true (now (chart .entry))) row) (member row (now (rows .entry))) true ⌝ }
+{
+    let must = chart::is_must(chart, row);
+    if must { among(rows, row) } else { true }
+}
+
+// Whether all must rows are among the rows.
+fn musts_dug(chart: &[u64; chart::LENGTH], rows: &[u16]) -> bool
+    ensures { λ r. ⌜ r ≡ hasAll (mustsIn (now (chart .entry))) (now (rows .entry)) ⌝ }
+{
+    let count = chart::row_count(chart);
+    let mut r: usize = 0;
+    while r < count {
+        if !dug(chart, rows, r) {
+            return false;
+        }
+        r += 1;
+    }
+    true
 }
 
 // Whether all must rows are on the path.
-fn musts_on(file: &[u8], path: Path) -> bool
-    ensures { λ r. ⌜ r ≡ hasAll (mustRows (networkOf (now (file .entry)))) (rowsIn path) ⌝ }
+fn musts_on(chart: &[u64; chart::LENGTH], path: Path) -> bool
+    ensures { λ r. ⌜ r ≡ hasAll (mustsIn (now (chart .entry))) (rowsIn path) ⌝ }
 {
     let steps = path.length();
     let rows = path.rows;
-    row_states::musts_dug(file, &rows[..steps])
+    musts_dug(chart, &rows[..steps])
 }
 
-/// Open's checks, then 12; the sizes of a file whose network has a tree.
-pub fn listed(file: &[u8]) -> Opened
-    ensures { λ r. ⌜ openedOf r ≡ listedCall (now (file .entry)) ⌝ }
+/// Open's checks, then 12; the sizes of a file whose network has a tree. An empty chart becomes that of the file.
+pub fn listed(file: &[u8], chart: &mut [u64; chart::LENGTH]) -> Opened
+    ensures { λ r. ⌜ (Blank (now (chart .entry)) → openedOf r ≡ listedCall (now (file .entry)))
+        × (firstUnmet (fileChecks (now (file .entry))) ≡ none → now (chart .exit) ≡ fileChartOn (now (file .entry)) (now (chart .entry))) ⌝ }
 {
     let opened = network::open(file);
-    let Opened::Header(header) = opened else {
+    let Opened::Header(_) = opened else {
         return opened;
     };
-    let m = header.m as usize;
-    let width = header.n as usize - 1;
-    let open = ends::ends_of(file, Rows::Unbarred);
-    let firsts = open.firsts;
-    let seconds = open.seconds;
-    let must = ends::ends_of(file, Rows::Must);
-    let heads = must.firsts;
-    let tails = must.seconds;
-    let nodes = ends::nodes_word(header.n);
-    let path = first_path(
-        &firsts[..m],
-        &seconds[..m],
-        &heads[..m],
-        &tails[..m],
-        header.n,
-        1,
-        nodes,
-        width,
-    );
+    chart::of_file(file, chart);
+    let path = grow::first_path(chart);
+    let width = chart::width(chart);
     if path.length() != width {
         return Opened::Refused(12);
     }
-    if musts_on(file, path) {
+    if musts_on(chart, path) {
         opened
     } else {
         Opened::Refused(12)

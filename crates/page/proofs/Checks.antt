@@ -1,10 +1,10 @@
 -- Page's checks, one after the other: what the call comes to where the first is not met (`page-listed`, `page-short`, `page-start`), and
--- where all are met (`page-met`). Of a start: its checks by the answer to its rows as drawn (`start-drawn`, `start-path`).
+-- where all are met (`page-met`). Of a start: its checks by the answer to its rows as drawn (`start-drawn`, `start-path`), which are tried in a chart (`start-tried`).
 use mathlib.Core.Path.{_∙_, _≡_, ap, refl, subst, sym}
 use mathlib.Core.Bool.{Bool}
 use mathlib.Core.Option.{Option·some-injective, none, some}
 use mathlib.Core.List.{List, [], _++_, _∷_, append-assoc, List·Memᴰ·head as here, List·Memᴰ·tail as there}
-use Prim.Native.Nat.{_-_, _<_, _≤_, ℕ}
+use Prim.Native.Nat.{_<_, _≤_, ℕ}
 use native.Mathlib.Omega.{arith}
 use lib.Dec.{T, leb}
 use lib.ListN.{length}
@@ -13,11 +13,12 @@ use Rattle.lists.proofs.Members.{same-of, same-out}
 use Rattle.lists.proofs.Tests.{T-same, T-true}
 use Rattle.lists.specs.Lists.{pick, same}
 use Rattle.checks.proofs.Checks.{firstUnmet-append, firstUnmet-met, firstUnmet-unmet, met-all}
-use Rattle.checks.proofs.Ended.{ended-met, ended-unmet, firstUnmet-stops, unmet-parts}
+use Rattle.checks.proofs.Ended.{checked-met, ended-met, ended-unmet, firstUnmet-stops, unmet-parts}
 use Rattle.checks.specs.Checks.{Check, firstUnmet, refused}
 use Rattle.drawn.specs.Answers.{drawnCall}
-use Rattle.drawn.proofs.Answers.{answered-by, refused-by}
+use Rattle.drawn.proofs.Answers.{answered-by, refused-by, tried-drawn}
 use Rattle.tried.specs.Answers.{drawnOf}
+use Rattle.tried.specs.Tried.{triedOf}
 use Rattle.tried.specs.declared.DrawnAnswer.{DrawnAnswer}
 use Rattle.graph.proofs.Minimal.{WellFormed}
 use Rattle.graph.proofs.PathOf.{pathOf-is, pathOf-only}
@@ -26,7 +27,7 @@ use Rattle.graph.specs.Paths.{isMinimal, pathOf}
 use Rattle.costs.specs.Layouts.{keepsStates}
 use Rattle.costs.specs.Network.{Network}
 use Rattle.costs.proofs.Layouts.{layouts-mem}
-use Rattle.network_file.specs.File.{fileChecks, networkOf}
+use Rattle.network_file.specs.File.{fileChecks, networkOf, openOf, sizesOf}
 use Rattle.network_file.proofs.Accepted.{accepted}
 use Rattle.listed.specs.Listed.{listedChecks}
 use Rattle.operations.proofs.Files.{formed}
@@ -35,7 +36,7 @@ use Rattle.pages.proofs.TreePages.{Starts}
 use Rattle.pages.specs.Pages.{restAfter}
 use Rattle.paths.specs.Path.{rowsIn}
 use Rattle.page.specs.Answers.{numbered}
-use Rattle.page.specs.Walkable.{filledBy}
+use Rattle.page.specs.Walkable.{ChartOf, filledBy}
 
 -- The start
 
@@ -44,6 +45,11 @@ minimal-same : (g : Graph) → WellFormed g → (rs ps : List ℕ) → pathOf g 
 minimal-same g wf rs ps e = T-same (isMinimal g rs) (same ps rs)
     (λ m. same-of ps rs (Option·some-injective ps rs (sym e ∙ pathOf-is g wf rs rs m (λ x i. i) (λ x i. i))))
     (λ s. subst (λ (p : List ℕ). T (isMinimal g p)) (same-out ps rs s) (pathOf-only g wf rs ps e .0))
+
+-- its rows tried in the chart of a file are those drawn in the file
+pub start-tried : {f c : List ℕ} → ChartOf f c → (start : List ℕ) → triedOf c start ≡ drawnCall f start
+unfolding openOf
+start-tried {f} o start = rw (o .made) (tried-drawn f (sizesOf f) (checked-met (fileChecks f) (sizesOf f) (o .met)) (o .lent) (o .empty) start)
 
 module _ (f : List ℕ) (met : firstUnmet (fileChecks f) ≡ none) where
   abbrev g : Graph

@@ -1,40 +1,36 @@
--- What the functions below `page` are given: the ends of a graph's rows and of its must rows, its nodes as a word and the neighbours by either
--- (`Walkable`); and what they come to: a page filled with the trees that are left (`filledBy`).
+-- What the functions below `page` are given: a chart that is right, of a graph with a node besides the plant, and with a tree in its list (`Walkable`), or the
+-- chart of a file (`ChartOf`); and what filling a page comes to: one filled with the trees that are left (`filledBy`).
+use mathlib.Core.Path.{_≡_}
 use mathlib.Core.Option.{Option, none, some}
 use mathlib.Core.List.{List, map}
 use Prim.Native.Nat.{_<_, ℕ}
 use Rattle.lists.proofs.Members.{_∈_}
-use Rattle.lists.specs.Lists.{filterB, range}
-use Rattle.checks.specs.Checks.{Ended, answered}
-use Rattle.graph.specs.Graph.{Graph}
+use Rattle.checks.specs.Checks.{Ended, answered, firstUnmet}
+use Rattle.chart.proofs.Charts.{Charts}
+use Rattle.chart.specs.Chart.{Blank, fileChartOn, listIn, widthIn}
 use Rattle.graph.specs.Paths.{Key}
-use Rattle.grow.proofs.Musts.{Mustered}
+use Rattle.network_file.specs.File.{fileChecks}
 use Rattle.operations.specs.Operations.{Paged}
 use Rattle.pages.specs.Pages.{moreAfter, pageAfter, pageCount}
-use Rattle.states.specs.States.{mustsOf, treesWith}
-use Rattle.walk.proofs.Behind.{Fitted}
-use Rattle.words.specs.Words.{has}
 
 -- the rows of a path that may be missing
 abbrev pub rowsOpt : Option (List Key) → Option (List ℕ)
 rowsOpt none = none
 rowsOpt (some ks) = some (map (λ (k : Key). k .row) ks)
 
--- the graph of these ends, with the members of the word as its nodes
-abbrev pub graphBy : List ℕ → List ℕ → ℕ → ℕ → ℕ → Graph
-graphBy firsts seconds plant limit nodes = record { plant = plant; nodes = filterB (has nodes) (range 1 limit); firstEnds = firsts; secondEnds = seconds }
-
--- its trees that have all must rows
-abbrev pub listBy : List ℕ → List ℕ → List ℕ → ℕ → ℕ → ℕ → List (List ℕ)
-listBy firsts seconds mustFirsts plant limit nodes = treesWith (graphBy firsts seconds plant limit nodes) (mustsOf mustFirsts)
-
--- what the walk is given fits that graph, which has a node besides the plant and such a tree
-pub record Walkable (nb firsts seconds mustNb mustFirsts mustSeconds : List ℕ) (plant limit nodes wide : ℕ) : Type 0 where
-  pub fitted : Fitted (graphBy firsts seconds plant limit nodes) nb limit nodes wide
-  pub mustered : Mustered (graphBy firsts seconds plant limit nodes) nb mustNb mustFirsts mustSeconds limit (mustsOf mustFirsts)
-  pub several : 0 < wide
+-- the chart of a graph whose trees can be listed
+pub record Walkable (c : List ℕ) : Type 0 where
+  pub right : Charts c
+  pub several : 0 < widthIn c
   pub tree : List ℕ
-  pub listed : tree ∈ listBy firsts seconds mustFirsts plant limit nodes
+  pub listed : tree ∈ listIn c
+
+-- the chart of an accepted file, made of one that was empty
+pub record ChartOf (f c : List ℕ) : Type 0 where
+  pub met : firstUnmet (fileChecks f) ≡ none
+  pub lent : List ℕ
+  pub empty : Blank lent
+  pub made : c ≡ fileChartOn f lent
 
 -- a page of w places a tree, filled with the trees that are left
 abbrev pub filledBy : ℕ → List ℕ → List (List ℕ) → Ended Paged (List ℕ)

@@ -1,23 +1,22 @@
 //! Page: the next trees of the list, as many as remain and fit.
 //! What the functions below `page` are given and answer stands in specs/Walkable.antt.
 ghost use mathlib.Core.Path.{_≡_};
-ghost use Prim.Native.Nat.{_+_, _≤_};
+ghost use mathlib.Core.List.{List};
+ghost use Prim.Native.Nat.{ℕ};
 ghost use lib.ListN.{getElem?, length};
-ghost use lib.Seq.{paste};
-ghost use mathlib.Core.Option.{none};
+ghost use Rattle.chart.specs.Chart.{listIn, plantIn, widthIn};
 ghost use Rattle.checks.specs.Checks.{firstUnmet};
-ghost use Rattle.network_file.specs.File.{fileChecks, networkOf};
+ghost use Rattle.copies.specs.Copies.{copied};
+ghost use Rattle.network.specs.Answers.{openedOf};
+ghost use Rattle.network_file.specs.File.{networkOf};
 ghost use Rattle.operations.specs.Operations.{pageCall, startChecks};
 ghost use Rattle.pages.proofs.TreePages.{Starts};
 ghost use Rattle.pages.specs.Pages.{restAfter};
-ghost use Rattle.spread.specs.Spread.{neighboursOf};
-ghost use Rattle.trace.specs.Trace.{traceOf};
+ghost use Rattle.trace.specs.Trace.{tracedIn};
 ghost use Rattle.walk.specs.Walk.{afterOf, nextOf};
-ghost use Rattle.network.specs.Answers.{openedOf};
 ghost use Rattle.paths.specs.Path.{rowsIn};
 ghost use Rattle.page.specs.Answers.{numbered, pagedOf, refusedBy};
-ghost use Rattle.page.specs.Walkable.{Walkable, filledBy, listBy, rowsOpt};
-use ends::Rows;
+ghost use Rattle.page.specs.Walkable.{ChartOf, Walkable, filledBy, rowsOpt};
 use network::Opened;
 use paths::Path;
 use walk::Next;
@@ -28,131 +27,52 @@ pub enum PageAnswer {
     Refused(u8),
 }
 
-// Writes the rows of a path from a place of the page on.
+// Writes the rows of a path from a place of the page on, as many as the page has room for.
 fn put(page: &mut [u16], at: usize, path: Path)
-    requires { ⌜ at + length (rowsIn path) ≤ length (now page) ⌝ }
-    ensures { λ _. ⌜ now (page .exit) ≡ paste (now (page .entry)) at (rowsIn path) (length (rowsIn path)) ⌝ }
+    ensures { λ _. ⌜ now (page .exit) ≡ copied (now (page .entry)) at (rowsIn path) (length (rowsIn path)) ⌝ }
 {
     let rows = path.rows;
     let n = path.length();
     copies::copy_rows(page, at, &rows[..n], n);
 }
 
-// The first path behind all that begin with the rows in these places, of those with all must rows: `heads` and `tails` are their ends, and `claims`
-// the neighbours by them.
-fn following(
-    neighbours: &[u64],
-    firsts: &[u8],
-    seconds: &[u8],
-    claims: &[u64],
-    heads: &[u8],
-    tails: &[u8],
-    plant: u8,
-    limit: u8,
-    nodes: u64,
-    width: usize,
-    places: &[u16],
-) -> Next
-    ensures { λ r. ⌜ nextOf r ≡ afterOf (now (neighbours .entry)) (now (firsts .entry)) (now (seconds .entry)) (now (claims .entry)) (now (heads .entry)) (now (tails .entry)) limit plant nodes width (traceOf (now (firsts .entry)) (now (seconds .entry)) plant (now (places .entry))) (length (now (places .entry))) ⌝ }
+// The first path behind all that begin with the rows in these places.
+fn following(chart: &[u64; chart::LENGTH], places: &[u16]) -> Next
+    ensures { λ r. ⌜ nextOf r ≡ afterOf (now (chart .entry)) (plantIn (now (chart .entry))) (tracedIn (now (chart .entry)) (now (places .entry))) (length (now (places .entry))) ⌝ }
 {
-    let path = trace::trace(firsts, seconds, plant, places);
+    let path = trace::trace(chart, places);
     let len = places.len();
-    walk::after(
-        neighbours,
-        firsts,
-        seconds,
-        claims,
-        heads,
-        tails,
-        limit,
-        nodes,
-        width,
-        path,
-        len,
-    )
+    walk::after(chart, path, len)
 }
 
 // The first path behind the start; the first of all where the start is empty.
-fn behind(
-    neighbours: &[u64],
-    firsts: &[u8],
-    seconds: &[u8],
-    claims: &[u64],
-    heads: &[u8],
-    tails: &[u8],
-    plant: u8,
-    limit: u8,
-    nodes: u64,
-    width: usize,
-    start: &[u16],
-) -> Next
-    requires { ⌜ Walkable (now neighbours) (now firsts) (now seconds) (now claims) (now heads) (now tails) plant limit nodes width × Starts (listBy (now firsts) (now seconds) (now heads) plant limit nodes) (now start) ⌝ }
-    ensures { λ r. ⌜ rowsOpt (nextOf r) ≡ getElem? (restAfter (listBy (now (firsts .entry)) (now (seconds .entry)) (now (heads .entry)) plant limit nodes) (now (start .entry))) 0 ⌝ }
+fn behind(chart: &[u64; chart::LENGTH], start: &[u16]) -> Next
+    ensures { λ r. ⌜ (Walkable (now (chart .entry)) → Starts (listIn (now (chart .entry))) (now (start .entry)) → rowsOpt (nextOf r) ≡ getElem? (restAfter (listIn (now (chart .entry))) (now (start .entry))) 0) ⌝ }
 {
     if 0 < start.len() {
-        return following(
-            neighbours,
-            firsts,
-            seconds,
-            claims,
-            heads,
-            tails,
-            plant,
-            limit,
-            nodes,
-            width,
-            start,
-        );
+        return following(chart, start);
     }
-    let first = grow::first_path(
-        neighbours,
-        firsts,
-        seconds,
-        claims,
-        heads,
-        tails,
-        limit,
-        plant,
-        nodes,
-        width,
-    );
+    let first = grow::first_path(chart);
     Next {
         some: true,
         path: first,
     }
 }
 
-// Fills the page with the trees behind the start, as many as remain and fit. Each is read from its places in the page to find the next.
-fn fill(
-    neighbours: &[u64],
-    firsts: &[u8],
-    seconds: &[u8],
-    claims: &[u64],
-    heads: &[u8],
-    tails: &[u8],
-    plant: u8,
-    limit: u8,
-    nodes: u64,
-    width: usize,
-    page: &mut [u16],
-    start: &[u16],
-) -> PageAnswer
-    requires { ⌜ Walkable (now neighbours) (now firsts) (now seconds) (now claims) (now heads) (now tails) plant limit nodes width × Starts (listBy (now firsts) (now seconds) (now heads) plant limit nodes) (now start) ⌝ }
-    ensures { λ r. ⌜ record { outcome = pagedOf r; buffers = now (page .exit) } ≡ filledBy width (now (page .entry)) (restAfter (listBy (now (firsts .entry)) (now (seconds .entry)) (now (heads .entry)) plant limit nodes) (now (start .entry))) ⌝ }
+/// Fills the page with the trees of the chart's list behind the start, as many as remain and fit.
+/// Each is read from its places in the page to find the next.
+pub fn fill(chart: &[u64; chart::LENGTH], page: &mut [u16], start: &[u16]) -> PageAnswer
+    ensures { λ r. ⌜ (Walkable (now (chart .entry)) → Starts (listIn (now (chart .entry))) (now (start .entry)) → record { outcome = pagedOf r; buffers = now (page .exit) } ≡ filledBy (widthIn (now (chart .entry))) (now (page .entry)) (restAfter (listIn (now (chart .entry))) (now (start .entry)))) ⌝ }
 {
-    let mut next = behind(
-        neighbours,
-        firsts,
-        seconds,
-        claims,
-        heads,
-        tails,
-        plant,
-        limit,
-        nodes,
-        width,
-        start,
-    );
+    let width = chart::width(chart);
+    // trees of no row would never fill the page
+    if width == 0 {
+        return PageAnswer::Trees {
+            count: 0,
+            more: false,
+        };
+    }
+    let mut next = behind(chart, start);
     let mut at: usize = 0;
     let mut count: usize = 0;
     while next.some {
@@ -167,19 +87,7 @@ fn fill(
         at += width;
         count += 1;
         let last = &page[from..at];
-        next = following(
-            neighbours,
-            firsts,
-            seconds,
-            claims,
-            heads,
-            tails,
-            plant,
-            limit,
-            nodes,
-            width,
-            last,
-        );
+        next = following(chart, last);
     }
     PageAnswer::Trees {
         count: count,
@@ -187,48 +95,14 @@ fn fill(
     }
 }
 
-// The same, with the neighbours still to be found.
-fn list(
-    firsts: &[u8],
-    seconds: &[u8],
-    heads: &[u8],
-    tails: &[u8],
-    plant: u8,
-    limit: u8,
-    nodes: u64,
-    width: usize,
-    page: &mut [u16],
-    start: &[u16],
-) -> PageAnswer
-    requires { ⌜ Walkable (neighboursOf (now firsts) (now seconds)) (now firsts) (now seconds) (neighboursOf (now heads) (now tails)) (now heads) (now tails) plant limit nodes width × Starts (listBy (now firsts) (now seconds) (now heads) plant limit nodes) (now start) ⌝ }
-    ensures { λ r. ⌜ record { outcome = pagedOf r; buffers = now (page .exit) } ≡ filledBy width (now (page .entry)) (restAfter (listBy (now (firsts .entry)) (now (seconds .entry)) (now (heads .entry)) plant limit nodes) (now (start .entry))) ⌝ }
-{
-    let neighbours = spread::neighbours(firsts, seconds);
-    let claims = spread::neighbours(heads, tails);
-    fill(
-        &neighbours,
-        firsts,
-        seconds,
-        &claims,
-        heads,
-        tails,
-        plant,
-        limit,
-        nodes,
-        width,
-        page,
-        start,
-    )
-}
-
 // The number of the first check of the start that is not met, of 8, 9, 10, 15 and 13; 0 where there is none.
-fn start_number(file: &[u8], start: &[u16]) -> u8
-    ensures { λ r. ⌜ (firstUnmet (fileChecks (now (file .entry))) ≡ none → firstUnmet (startChecks (networkOf (now (file .entry))) (now (start .entry))) ≡ numbered r) ⌝ }
+fn start_number(chart: &[u64; chart::LENGTH], start: &[u16]) -> u8
+    ensures { λ r. ⌜ ((f : List ℕ) → ChartOf f (now (chart .entry)) → firstUnmet (startChecks (networkOf f) (now (start .entry))) ≡ numbered r) ⌝ }
 {
     if start.len() == 0 {
         return 0;
     }
-    let drawn = drawn::drawn(file, start);
+    let drawn = tried::tried(chart, start);
     if drawn.number != 0 {
         return drawn.number;
     }
@@ -249,37 +123,17 @@ fn refused(opened: Opened) -> PageAnswer
 pub fn page(file: &[u8], page: &mut [u16], start: &[u16]) -> PageAnswer
     ensures { λ r. ⌜ record { outcome = pagedOf r; buffers = now (page .exit) } ≡ pageCall (now (file .entry)) (now (page .entry)) (now (start .entry)) ⌝ }
 {
-    let opened = listed::listed(file);
-    let Opened::Header(header) = opened else {
+    let mut chart = [0u64; chart::LENGTH];
+    let opened = listed::listed(file, &mut chart);
+    let Opened::Header(_) = opened else {
         return refused(opened);
     };
-    let n = header.n;
-    let width = n as usize - 1;
-    if page.len() < width {
+    if page.len() < chart::width(&chart) {
         return PageAnswer::Refused(11);
     }
-    let number = start_number(file, start);
+    let number = start_number(&chart, start);
     if number != 0 {
         return PageAnswer::Refused(number);
     }
-    let m = header.m as usize;
-    let open = ends::ends_of(file, Rows::Unbarred);
-    let firsts = open.firsts;
-    let seconds = open.seconds;
-    let must = ends::ends_of(file, Rows::Must);
-    let heads = must.firsts;
-    let tails = must.seconds;
-    let nodes = ends::nodes_word(n);
-    list(
-        &firsts[..m],
-        &seconds[..m],
-        &heads[..m],
-        &tails[..m],
-        1,
-        n,
-        nodes,
-        width,
-        page,
-        start,
-    )
+    fill(&chart, page, start)
 }

@@ -4,7 +4,6 @@ ghost use Rattle.network.specs.Answers.{openedOf};
 ghost use Rattle.operations.specs.Operations.{reachCall};
 ghost use Rattle.reach.specs.Answers.{reachedOf, refusedBy};
 ghost use Rattle.reach.specs.Reached.{reachedWord};
-use ends::Rows;
 use network::Opened;
 
 /// The answer of Reach: bit p - 1 of the word stands for node p.
@@ -14,14 +13,14 @@ pub enum ReachAnswer {
 }
 
 // The nodes that rows join to the plant, and the plant, as a word of crate words.
-fn reached_word(firsts: &[u8], seconds: &[u8], limit: u8, plant: u8, nodes: u64) -> u64
-    ensures { λ r. ⌜ r ≡ reachedWord (now (firsts .entry)) (now (seconds .entry)) limit plant nodes ⌝ }
+fn reached_word(chart: &[u64; chart::LENGTH]) -> u64
+    ensures { λ r. ⌜ r ≡ reachedWord (now (chart .entry)) ⌝ }
 {
-    let neighbours = spread::neighbours(firsts, seconds);
+    let plant = chart::plant(chart);
     let entered = [plant];
-    let fresh = words::minus(nodes, words::bit(plant));
-    let seeds = spread::seeds(&neighbours, fresh, &entered, 0, 0);
-    spread::spread(&neighbours, limit, fresh, seeds) | words::bit(plant)
+    let fresh = words::minus(chart::nodes(chart), words::bit(plant));
+    let seeds = spread::seeds(chart, false, fresh, &entered, 0, 0);
+    spread::spread(chart, false, fresh, seeds) | words::bit(plant)
 }
 
 // A refusal of Open as one of Reach; only a refusal is asked.
@@ -39,15 +38,12 @@ pub fn reach(file: &[u8]) -> ReachAnswer
     ensures { λ r. ⌜ reachedOf r ≡ reachCall (now (file .entry)) ⌝ }
 {
     let opened = network::open(file);
-    let Opened::Header(header) = opened else {
+    let Opened::Header(_) = opened else {
         return refused(opened);
     };
-    let m = header.m as usize;
-    let open = ends::ends_of(file, Rows::Unbarred);
-    let firsts = open.firsts;
-    let seconds = open.seconds;
-    let nodes = ends::nodes_word(header.n);
-    let reached = reached_word(&firsts[..m], &seconds[..m], header.n, 1, nodes);
+    let mut chart = [0u64; chart::LENGTH];
+    chart::of_file(file, &mut chart);
+    let reached = reached_word(&chart);
     let word = (reached / 2 % 4294967296) as u32;
     ReachAnswer::Set {
         word: word,

@@ -1,32 +1,28 @@
--- The searches of the model in the theory of growing paths: what `firstStepOf` finds is the least legal step (`first-least`, `first-none`), and what
--- `nextRowOf` finds is the next parallel row (`next-least`, `next-none`).
+-- The search of the model in the theory of growing paths: what `firstStepOf` finds is the least legal step (`first-least`, `first-none`).
 use mathlib.Core.Path.{_∙_, _≡_, ap, refl, subst, sym}
 use mathlib.Core.Option.{Option, Option·none-ne-some, Option·some-injective, none, some}
 use mathlib.Core.List.{List}
 use Prim.Native.Nat.{_+_, _-_, _<_, _≤_, suc, zero, ℕ}
-use native.Mathlib.Decide.{ℕ-discrete}
 use native.Mathlib.Omega.{arith}
 use lib.Dec.{T, ltb, ltb→lt}
 use lib.ListN.{getD, length}
-use Rattle.lists.specs.Lists.{pick}
 use Rattle.lists.proofs.Ascending.{getD-mem}
 use Rattle.lists.proofs.Members.{_∈_, range-out}
 use Rattle.lists.proofs.Tests.{T-both, not-ltb→le, pick-elim}
 use Rattle.graph.specs.Graph.{Graph, rowNumbers}
 use Rattle.graph.specs.Paths.{Key}
 use Rattle.graph.proofs.Growth.{Joins, Legal, State}
-use Rattle.graph.proofs.Keys.{Beside, Lex, further, level}
+use Rattle.graph.proofs.Keys.{Lex, further, level}
 use Rattle.graph.proofs.Least.{AnyKey, Least}
 use Rattle.graph.proofs.Minimal.{rowNumbers-in}
 use Rattle.graph.proofs.Places.{node-at, place-at}
 use Rattle.graph.proofs.Runs.{joins-in, joins-out}
-use Rattle.graph.proofs.Scan.{beside-least, beside-none, byRow}
 use Rattle.graph.proofs.Search.{NoneBefore, before-last, before-node, before-place, before-row, before-start, found-least}
 use Rattle.words.specs.Words.{has}
 use Rattle.words.proofs.Words.{has-and}
 use Rattle.spread.specs.Spread.{openAt}
-use Rattle.spread.proofs.Ready.{Charted, Ready}
-use Rattle.search.specs.Search.{firstFrom, firstStepOf, joinsAt, nextRowOf, nodeTry, orElse, placeTry, rowTry}
+use Rattle.chart.proofs.Charts.{Charted, Ready}
+use Rattle.search.specs.Search.{firstFrom, firstStepOf, joinsAt, nodeTry, orElse, placeTry, rowTry}
 
 -- What a search tells: N where it finds nothing, Q of what it finds
 
@@ -75,7 +71,11 @@ rows-below g q m = omega (arith, range-out 0 (length (g .firstEnds)) m .1)
 
 -- The first step
 
-module _ {g : Graph} {nb : List ℕ} {limit fresh : ℕ} {s : State} (charted : Charted g nb limit) (ready : Ready g s fresh) where
+-- no row below the first that is tried joins two nodes
+abbrev pub Headed : Graph → (ℕ → ℕ → ℕ) → Type 0
+Headed g heads = (u v r : ℕ) → u ∈ g .nodes → v ∈ g .nodes → r < heads u v → ¬ Joins g r u v
+
+module _ {g : Graph} {nb : List ℕ} {heads : ℕ → ℕ → ℕ} {limit fresh : ℕ} {s : State} (charted : Charted g nb limit) (headed : Headed g heads) (ready : Ready g s fresh) where
   abbrev Allowed : Key → Type 0
   Allowed = Legal g (rowNumbers g) s
 
@@ -137,18 +137,27 @@ module _ {g : Graph} {nb : List ℕ} {limit fresh : ℕ} {s : State} (charted : 
         })))
         (λ n. nothing refl (before-row g (rowNumbers g) s i v r b (λ h. n (at-in g r (pivotAt i) v (joined-at (record { place = i; node = v; row = r }) h)))))
 
+    -- the rows below the first that is tried make no legal step
+    to-head : (v : ℕ) → T (has (openAt nb fresh (pivotAt i)) v) → (r : ℕ) → r ≤ heads (pivotAt i) v → Before i v 0 → Before i v r
+    to-head v o zero h b = b
+    to-head v o (suc r) h b = before-row g (rowNumbers g) s i v r (to-head v o r (omega arith) b) (λ x.
+        headed (pivotAt i) v r (ready .sound .nodes (pivotAt i) (getD-mem (s .entered) i 0 stands)) (open-out (pivotAt i) v o .0) (omega arith)
+        (joined-at (record { place = i; node = v; row = r }) x))
+
     node-tells : (j : ℕ) → Lex (s .place) (s .node) i (suc j) → Before i (suc j) 0
-        → Tells Finds (nodeTry nb (g .firstEnds) (g .secondEnds) fresh i (pivotAt i) j) (Before i (suc (suc j)) 0)
+        → Tells Finds (nodeTry nb heads (g .firstEnds) (g .secondEnds) fresh i (pivotAt i) j) (Before i (suc (suc j)) 0)
     unfolding nodeTry
     node-tells j above b =
+        let head = heads (pivotAt i) (suc j) in
+        let end = head + (length (g .firstEnds) - head) in
         pick-elim (λ (o : Option Key). Tells Finds o (Before i (suc (suc j)) 0)) (has (openAt nb fresh (pivotAt i)) (suc j))
         (λ t. tells-then
-        (tells-from _ (Before i (suc j)) (length (g .firstEnds)) 0 (length (g .firstEnds)) (omega arith) (λ r _ low. row-tells (suc j) r t above low) b)
-        (before-node g (rowNumbers g) s i (suc j) (length (g .firstEnds)) (rows-below g)))
+        (tells-from _ (Before i (suc j)) (length (g .firstEnds) - head) head end refl (λ r a low. row-tells (suc j) r t above (omega arith)) (to-head (suc j) t head (omega arith) b))
+        (before-node g (rowNumbers g) s i (suc j) end (λ q m. omega (arith, rows-below g q m))))
         (λ n. nothing refl (none-here i (suc j) (λ r h. n (open-in (record { place = i; node = suc j; row = r }) h)) b))
 
     place-tells : (j : ℕ) → ((v : ℕ) → j < v → Lex (s .place) (s .node) i v) → Before i (suc j) 0
-        → Tells Finds (placeTry nb (g .firstEnds) (g .secondEnds) limit fresh (s .entered) i j) (Before (suc i) 1 0)
+        → Tells Finds (placeTry nb heads (g .firstEnds) (g .secondEnds) limit fresh (s .entered) i j) (Before (suc i) 1 0)
     unfolding placeTry
     place-tells j above b =
         tells-then
@@ -157,7 +166,7 @@ module _ {g : Graph} {nb : List ℕ} {limit fresh : ℕ} {s : State} (charted : 
         (before-place g (rowNumbers g) s i (suc (j + (limit - j))) (λ v m. omega (arith, charted .low v m)) p))
 
   later-tells : s .place < length (s .entered) → Before (suc (s .place)) 1 0
-      → Tells Finds (firstFrom (λ i. placeTry nb (g .firstEnds) (g .secondEnds) limit fresh (s .entered) i 0) (length (s .entered) - suc (s .place)) (suc (s .place)))
+      → Tells Finds (firstFrom (λ i. placeTry nb heads (g .firstEnds) (g .secondEnds) limit fresh (s .entered) i 0) (length (s .entered) - suc (s .place)) (suc (s .place)))
       ((m : Key) → ¬ Allowed m)
   later-tells low b =
       tells-then
@@ -165,7 +174,7 @@ module _ {g : Graph} {nb : List ℕ} {limit fresh : ℕ} {s : State} (charted : 
       (λ i a low. place-tells i low 0 (λ v _. further a)) b)
       (before-last g (rowNumbers g) s (length (s .entered)) 1 0 (omega arith))
 
-  first-tells : Tells Finds (firstStepOf nb (g .firstEnds) (g .secondEnds) limit fresh (s .entered) (s .place) (s .node)) ((m : Key) → ¬ Allowed m)
+  first-tells : Tells Finds (firstStepOf nb heads (g .firstEnds) (g .secondEnds) limit fresh (s .entered) (s .place) (s .node)) ((m : Key) → ¬ Allowed m)
   unfolding firstStepOf
   first-tells =
       let start = before-start g (rowNumbers g) s in
@@ -175,46 +184,10 @@ module _ {g : Graph} {nb : List ℕ} {limit fresh : ℕ} {s : State} (charted : 
       tells-else (place-tells (s .place) low (s .node) (λ v. level refl) start) (later-tells low))
       (λ n. nothing refl (before-last g (rowNumbers g) s (s .place) (suc (s .node)) 0 (not-ltb→le (s .place) (length (s .entered)) n) start))
 
-  pub first-least : (k : Key) → firstStepOf nb (g .firstEnds) (g .secondEnds) limit fresh (s .entered) (s .place) (s .node) ≡ some k
+  pub first-least : (k : Key) → firstStepOf nb heads (g .firstEnds) (g .secondEnds) limit fresh (s .entered) (s .place) (s .node) ≡ some k
       → Least g (rowNumbers g) s AnyKey k
   first-least k e = tells-some first-tells e
 
-  pub first-none : firstStepOf nb (g .firstEnds) (g .secondEnds) limit fresh (s .entered) (s .place) (s .node) ≡ none
+  pub first-none : firstStepOf nb heads (g .firstEnds) (g .secondEnds) limit fresh (s .entered) (s .place) (s .node) ≡ none
       → (m : Key) → ¬ Legal g (rowNumbers g) s m
   first-none e = tells-none first-tells e
-
--- The next parallel row
-
-module _ {g : Graph} {s : State} {k : Key} (legal : Legal g (rowNumbers g) s k) where
-  abbrev Next : ℕ → Type 0
-  Next r = Least g (rowNumbers g) s (Beside k) (byRow g (rowNumbers g) s k legal r)
-
-  -- no row from the one behind k's up to below q is parallel
-  abbrev NoneTo : ℕ → Type 0
-  NoneTo q = (p : ℕ) → k .row < p → p < q → ¬ Joins g p (legal .step .pivot) (k .node)
-
-  next-turn : (q : ℕ) → k .row < q → q < length (g .firstEnds) → NoneTo q
-      → Tells Next (pick (joinsAt (g .firstEnds) (g .secondEnds) q (legal .step .pivot) (k .node)) (some q) none) (NoneTo (suc q))
-  next-turn q above low f =
-      pick-elim (λ (o : Option ℕ). Tells Next o (NoneTo (suc q))) (joinsAt (g .firstEnds) (g .secondEnds) q (legal .step .pivot) (k .node))
-      (λ t. found refl (beside-least g (rowNumbers g) s k legal q (rowNumbers-in g q low) above (at-out g q (legal .step .pivot) (k .node) t) (λ p _. f p)))
-      (λ n. nothing refl (λ p a b j. elim (ℕ-discrete p q) [
-        | yes e ↦ n (at-in g q (legal .step .pivot) (k .node) (rw e at j))
-        | no d ↦ f p a (omega arith) j
-      ]))
-
-  next-tells : Tells Next (nextRowOf (g .firstEnds) (g .secondEnds) (k .row) (legal .step .pivot) (k .node)) ((m : Key) → Legal g (rowNumbers g) s m → ¬ Beside k m)
-  unfolding nextRowOf
-  next-tells =
-      let low = rows-below g (k .row) (legal .usable) in
-      tells-then
-      (tells-from _ NoneTo (length (g .firstEnds) - suc (k .row)) (suc (k .row)) (length (g .firstEnds)) (omega arith) next-turn (λ p a b. absurd (omega arith)))
-      (λ f. beside-none g (rowNumbers g) s k legal (λ q m a. f q a (rows-below g q m)))
-
-  pub next-least : (r : ℕ) → nextRowOf (g .firstEnds) (g .secondEnds) (k .row) (legal .step .pivot) (k .node) ≡ some r
-      → Least g (rowNumbers g) s (Beside k) (record { place = k .place; node = k .node; row = r })
-  next-least r e = tells-some next-tells e
-
-  pub next-none : nextRowOf (g .firstEnds) (g .secondEnds) (k .row) (legal .step .pivot) (k .node) ≡ none
-      → (m : Key) → Legal g (rowNumbers g) s m → ¬ Beside k m
-  next-none e = tells-none next-tells e

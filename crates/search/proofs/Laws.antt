@@ -1,21 +1,21 @@
 -- What a search still answers at each turn of its loops: at a place, a node, a row. The whole answer equals what the rest of the search answers.
-use mathlib.Core.Path.{_∙_, _≡_, refl, sym}
+use mathlib.Core.Path.{_∙_, _≡_, ap, refl, subst, sym}
 use mathlib.Core.Bool.{false, true}
 use mathlib.Core.Option.{Option, none, some}
 use mathlib.Core.List.{List}
-use Prim.Native.Nat.{_+_, _-_, _<_, _≤_, suc, ℕ}
+use Prim.Native.Nat.{_+_, _-_, _<_, _≤_, suc, zero, ℕ}
 use native.Mathlib.Decide.{decLt, ℕ-discrete}
-use native.Mathlib.Nat.{sub-zero}
+use native.Mathlib.Nat.{add-zero}
 use native.Mathlib.Numerals.{add-one}
 use native.Mathlib.Omega.{arith}
 use borrow.Author.Tests.{eq-eqb, le-ltb, lt-ltb, ne-eqb}
 use lib.Dec.{eqb}
 use lib.ListN.{getD, length}
-use Rattle.lists.specs.Lists.{pick}
 use Rattle.graph.specs.Paths.{Key}
-use Rattle.words.specs.Words.{has}
+use Rattle.words.specs.Words.{above, has, lowest}
 use Rattle.spread.specs.Spread.{openAt}
-use Rattle.search.specs.Search.{firstFrom, firstStepOf, joinsAt, nextRowOf, nodeTry, orElse, placeTry, rowTry}
+use Rattle.words.proofs.Words.{NextMember, next-member}
+use Rattle.search.specs.Search.{firstFrom, firstStepOf, joinsAt, nodeTry, orElse, placeTry, rowTry}
 
 -- A range: one more number, and its end
 
@@ -38,12 +38,12 @@ orElse-assoc none b d = refl
 
 -- The first step. `firstStepOf` at a place and a node is itself what is left of the search from there; the two loops inside have what follows them besides.
 
-module _ (nb firsts seconds : List ℕ) (limit fresh : ℕ) (entered : List ℕ) where
+module _ (nb : List ℕ) (heads : ℕ → ℕ → ℕ) (firsts seconds : List ℕ) (limit fresh : ℕ) (entered : List ℕ) where
   abbrev pub fromPlace : ℕ → ℕ → Option Key
-  fromPlace = firstStepOf nb firsts seconds limit fresh entered
+  fromPlace = firstStepOf nb heads firsts seconds limit fresh entered
 
   unfoldable pub fromNode : ℕ → ℕ → ℕ → Option Key
-  fromNode i pivot j = orElse (firstFrom (nodeTry nb firsts seconds fresh i pivot) (limit - j) j) (fromPlace (i + 1) 0)
+  fromNode i pivot j = orElse (firstFrom (nodeTry nb heads firsts seconds fresh i pivot) (limit - j) j) (fromPlace (i + 1) 0)
 
   unfoldable pub fromRow : ℕ → ℕ → ℕ → ℕ → Option Key
   fromRow i pivot node r = orElse (firstFrom (rowTry firsts seconds i pivot node) (length firsts - r) r) (fromNode i pivot node)
@@ -52,7 +52,7 @@ module _ (nb firsts seconds : List ℕ) (limit fresh : ℕ) (entered : List ℕ)
   unfolding firstStepOf
   leave-places i j h = rw (le-ltb _ _ h)
 
-  later : (i : ℕ) → firstFrom (λ (i : ℕ). placeTry nb firsts seconds limit fresh entered i 0) (length entered - i) i ≡ fromPlace i 0
+  later : (i : ℕ) → firstFrom (λ (i : ℕ). placeTry nb heads firsts seconds limit fresh entered i 0) (length entered - i) i ≡ fromPlace i 0
   unfolding firstStepOf
   later i = elim (decLt i (length entered)) [
     | yes h ↦ first-more _ _ _ h ∙ (rw (lt-ltb _ _ h))
@@ -71,9 +71,9 @@ module _ (nb firsts seconds : List ℕ) (limit fresh : ℕ) (entered : List ℕ)
   unfolding fromNode nodeTry
   shut-node i p j h e = rw (first-more _ _ _ h, ← add-one j, e)
 
-  pub enter-rows : (i p j : ℕ) → j < limit → has (openAt nb fresh p) (j + 1) ≡ true → fromNode i p j ≡ fromRow i p (j + 1) 0
+  pub enter-rows : (i p j : ℕ) → j < limit → has (openAt nb fresh p) (j + 1) ≡ true → fromNode i p j ≡ fromRow i p (j + 1) (heads p (j + 1))
   unfolding fromNode fromRow nodeTry
-  enter-rows i p j h e = rw (first-more _ _ _ h, ← add-one j, e, orElse-assoc, sub-zero)
+  enter-rows i p j h e = rw (first-more _ _ _ h, ← add-one j, e, orElse-assoc)
 
   pub leave-rows : (i p v r : ℕ) → length firsts ≤ r → fromRow i p v r ≡ fromNode i p v
   unfolding fromRow
@@ -87,31 +87,42 @@ module _ (nb firsts seconds : List ℕ) (limit fresh : ℕ) (entered : List ℕ)
   unfolding fromRow rowTry
   at-row i p v r h e = rw (first-more _ _ _ h, e)
 
--- The next row: what is left of the search from row q on
+  -- nodes that are not open, one after the other
+  pass-node : (i p j : ℕ) → has (openAt nb fresh p) (j + 1) ≡ false → fromNode i p j ≡ fromNode i p (j + 1)
+  pass-node i p j e = elim (decLt j limit) [
+    | yes h ↦ shut-node i p j h e
+    | no n ↦ leave-nodes i p j (omega arith) ∙ sym (leave-nodes i p (j + 1) (omega arith))
+  ]
 
-module _ (firsts seconds : List ℕ) (u v : ℕ) where
-  unfoldable pub fromNext : ℕ → Option ℕ
-  fromNext q = firstFrom (λ q. pick (joinsAt firsts seconds q u v) (some q) none) (length firsts - q) q
+  pass-nodes : (i p d j : ℕ) → ((u : ℕ) → j < u → u ≤ j + d → has (openAt nb fresh p) u ≡ false) → fromNode i p j ≡ fromNode i p (j + d)
+  pass-nodes i p zero j shut = ap (fromNode i p) (sym (add-zero j))
+  pass-nodes i p (suc d) j shut =
+      let e : j + 1 + d ≡ j + suc d = omega arith in
+      pass-node i p j (shut (j + 1) (omega arith) (omega arith)) ∙ pass-nodes i p d (j + 1) (λ u a b. shut u (omega arith) (omega arith)) ∙ ap (fromNode i p) e
 
-  pub next-none : (r : ℕ) → length firsts ≤ r → none ≡ nextRowOf firsts seconds r u v
-  unfolding nextRowOf
-  next-none r h = sym (first-over _ _ (suc r) (omega arith))
+  -- to the node before the next open one
+  before-next : (i p j v : ℕ) → NextMember (openAt nb fresh p) j v → fromNode i p j ≡ fromNode i p (v - 1)
+  before-next i p j v n =
+      let h = n .beyond in
+      let e : j + (v - 1 - j) ≡ v - 1 = omega arith in
+      pass-nodes i p (v - 1 - j) j (λ u a b. n .between u a (omega arith)) ∙ ap (fromNode i p) e
 
-  pub next-start : (r : ℕ) → nextRowOf firsts seconds r u v ≡ fromNext (r + 1)
-  unfolding nextRowOf fromNext
-  next-start r = rw add-one
+  -- there is no next one
+  pub over-limit : (i p j v : ℕ) → NextMember (openAt nb fresh p) j v → limit < v → fromNode i p j ≡ fromNode i p v
+  over-limit i p j v n h = before-next i p j v n ∙ leave-nodes i p (v - 1) (omega arith) ∙ sym (leave-nodes i p v (omega arith))
 
-  pub next-over : (q : ℕ) → length firsts ≤ q → fromNext q ≡ none
-  unfolding fromNext
-  next-over q h = first-over _ _ q h
+  -- the next open node, and its rows
+  pub next-rows : (i p j v r : ℕ) → limit < 64 → NextMember (openAt nb fresh p) j v → v ≤ limit → r ≡ heads p v → fromNode i p j ≡ fromRow i p v r
+  next-rows i p j v r small n h d =
+      let b = n .beyond in
+      let e : v - 1 + 1 ≡ v = omega arith in
+      let member : has (openAt nb fresh p) (v - 1 + 1) ≡ true = rw e (n .member (omega arith)) in
+      before-next i p j v n ∙ enter-rows i p (v - 1) (omega arith) member ∙ ap (λ (x : ℕ). fromRow i p x (heads p x)) e ∙ ap (fromRow i p v) (sym d)
 
-  pub next-skip : (q : ℕ) → q < length firsts → joinsAt firsts seconds q u v ≡ false → fromNext q ≡ fromNext (q + 1)
-  unfolding fromNext
-  next-skip q h e = rw (first-more _ _ _ h, e, add-one)
-
-  pub next-at : (q : ℕ) → q < length firsts → joinsAt firsts seconds q u v ≡ true → fromNext q ≡ some q
-  unfolding fromNext
-  next-at q h e = rw (first-more _ _ _ h, e)
+-- the next open node, as the code finds it
+pub next-open : (nb : List ℕ) (fresh p o a j v : ℕ) → j < 64 → o ≡ openAt nb fresh p → a ≡ above o j → v ≡ lowest a → NextMember (openAt nb fresh p) j v
+next-open nb fresh p o a j v h e d f =
+    subst (NextMember (openAt nb fresh p) j) (sym (f ∙ ap lowest (d ∙ ap (λ (x : ℕ). above x j) e))) (next-member (openAt nb fresh p) j h)
 
 -- Whether a row with the ends a and b joins u and v, by its first end
 

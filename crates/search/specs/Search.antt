@@ -1,5 +1,6 @@
 -- The nested search for the first legal step of a growing path, over places, nodes and rows, resumed at a bound.
--- `firsts` and `seconds` are the ends of the rows, `nb` the neighbours of each node and `fresh` the nodes not yet entered, as words.
+-- `nb` are the neighbours of each node and `fresh` the nodes not yet entered, as words, `heads` says from which row on the rows of two nodes are tried, and `firsts` and
+-- `seconds` are the ends of the rows. `stepIn` is the search over a chart.
 use mathlib.Core.Bool.{Bool, _&&_, _||_}
 use mathlib.Core.Option.{Option, none, some}
 use mathlib.Core.List.{List}
@@ -9,11 +10,10 @@ use lib.ListN.{getD, length}
 use Rattle.lists.specs.Lists.{pick}
 use Rattle.graph.specs.Paths.{Key}
 use Rattle.words.specs.Words.{has}
+use Rattle.chart.specs.Chart.{firstsIn, headIn, limitIn, nearIn, secondsIn}
 use Rattle.spread.specs.Spread.{openAt}
 use Rattle.search.specs.declared.Found.{Found}
 use Rattle.search.specs.declared.Found.the-variants.{At, Nothing}
-use Rattle.search.specs.declared.RowFound.{RowFound}
-use Rattle.search.specs.declared.RowFound.the-variants.{NoRow, Row}
 use Rattle.search.specs.declared.Step.{Step}
 
 -- the key of a step in the code, and what it found
@@ -23,10 +23,6 @@ keyOf s = record { place = s .place; node = s .node; row = s .row }
 abbrev pub foundOf : Found → Option Key
 foundOf (At s) = some (keyOf s)
 foundOf Nothing = none
-
-abbrev pub rowFoundOf : RowFound → Option ℕ
-rowFoundOf (Row r) = some r
-rowFoundOf NoRow = none
 
 abbrev pub orElse : {A : Type 0} → Option A → Option A → Option A
 orElse none b = b
@@ -46,24 +42,25 @@ unfolding joinsAt
 rowTry firsts seconds i pivot node r = pick (joinsAt firsts seconds r pivot node) (some (record { place = i; node = node; row = r })) none
 
 -- the step to node j + 1, if that is open
-unfoldable pub nodeTry : List ℕ → List ℕ → List ℕ → ℕ → ℕ → ℕ → ℕ → Option Key
+unfoldable pub nodeTry : List ℕ → (ℕ → ℕ → ℕ) → List ℕ → List ℕ → ℕ → ℕ → ℕ → ℕ → Option Key
 unfolding has openAt firstFrom rowTry
-nodeTry nb firsts seconds fresh i pivot j = pick (has (openAt nb fresh pivot) (suc j)) (firstFrom (rowTry firsts seconds i pivot (suc j)) (length firsts) 0) none
+nodeTry nb heads firsts seconds fresh i pivot j =
+    let head = heads pivot (suc j) in
+    pick (has (openAt nb fresh pivot) (suc j)) (firstFrom (rowTry firsts seconds i pivot (suc j)) (length firsts - head) head) none
 
 -- the step from place i to a node above j, at most the limit
-unfoldable pub placeTry : List ℕ → List ℕ → List ℕ → ℕ → ℕ → List ℕ → ℕ → ℕ → Option Key
+unfoldable pub placeTry : List ℕ → (ℕ → ℕ → ℕ) → List ℕ → List ℕ → ℕ → ℕ → List ℕ → ℕ → ℕ → Option Key
 unfolding firstFrom nodeTry
-placeTry nb firsts seconds limit fresh entered i j = firstFrom (nodeTry nb firsts seconds fresh i (getD entered i 0)) (limit - j) j
+placeTry nb heads firsts seconds limit fresh entered i j = firstFrom (nodeTry nb heads firsts seconds fresh i (getD entered i 0)) (limit - j) j
 
 -- at the bound's place from the bound's node on, then at the later places
-unfoldable pub firstStepOf : List ℕ → List ℕ → List ℕ → ℕ → ℕ → List ℕ → ℕ → ℕ → Option Key
+unfoldable pub firstStepOf : List ℕ → (ℕ → ℕ → ℕ) → List ℕ → List ℕ → ℕ → ℕ → List ℕ → ℕ → ℕ → Option Key
 unfolding firstFrom placeTry
-firstStepOf nb firsts seconds limit fresh entered place node = pick (ltb place (length entered))
-    (orElse (placeTry nb firsts seconds limit fresh entered place node)
-    (firstFrom (λ i. placeTry nb firsts seconds limit fresh entered i 0) (length entered - suc place) (suc place)))
+firstStepOf nb heads firsts seconds limit fresh entered place node = pick (ltb place (length entered))
+    (orElse (placeTry nb heads firsts seconds limit fresh entered place node)
+    (firstFrom (λ i. placeTry nb heads firsts seconds limit fresh entered i 0) (length entered - suc place) (suc place)))
     none
 
--- the next row above r that joins u and v: of parallel rows the next
-unfoldable pub nextRowOf : List ℕ → List ℕ → ℕ → ℕ → ℕ → Option ℕ
-unfolding firstFrom joinsAt
-nextRowOf firsts seconds r u v = firstFrom (λ q. pick (joinsAt firsts seconds q u v) (some q) none) (length firsts - suc r) (suc r)
+-- over a chart, by any row or by must rows
+abbrev pub stepIn : List ℕ → Bool → ℕ → List ℕ → ℕ → ℕ → Option Key
+stepIn c must = firstStepOf (nearIn must c) (headIn c) (firstsIn must c) (secondsIn must c) (limitIn c)

@@ -1,6 +1,7 @@
 //! The first legal step of a growing path: a nested search over pivot places, nodes and rows, left at the first legal step.
 ghost use mathlib.Core.Path.{_≡_};
-ghost use Rattle.search.specs.Search.{firstStepOf, foundOf, joinsAt, nextRowOf, rowFoundOf};
+ghost use Rattle.chart.specs.Chart.{firstsIn, secondsIn};
+ghost use Rattle.search.specs.Search.{foundOf, joinsAt, stepIn};
 
 /// A step of a path: from the node at a place to a node, by a row.
 pub struct Step {
@@ -14,50 +15,46 @@ pub enum Found {
     Nothing,
 }
 
-pub enum RowFound {
-    Row(usize),
-    NoRow,
-}
-
-/// Whether row r joins u and v.
-pub fn joins(firsts: &[u8], seconds: &[u8], r: usize, u: u8, v: u8) -> bool
-    ensures { λ x. ⌜ x ≡ joinsAt (now (firsts .entry)) (now (seconds .entry)) r u v ⌝ }
+/// Whether row r joins u and v, or is a must row that does.
+fn joins(chart: &[u64; chart::LENGTH], must: bool, r: usize, u: u8, v: u8) -> bool
+    ensures { λ x. ⌜ x ≡ joinsAt (firstsIn must (now (chart .entry))) (secondsIn must (now (chart .entry))) r u v ⌝ }
 {
-    let a = slices::byte_at(firsts, r);
+    let a = chart::first_end(chart, must, r);
     if a == u {
-        return slices::byte_at(seconds, r) == v;
+        return chart::second_end(chart, must, r) == v;
     }
     if a == v {
-        return slices::byte_at(seconds, r) == u;
+        return chart::second_end(chart, must, r) == u;
     }
     false
 }
 
-/// The first legal step of the state with these nodes entered and this bound.
+/// The first legal step, by any row or by a must row, of the state with these nodes entered and this bound. The rows of two nodes are tried from their first on.
 pub fn first_step(
-    neighbours: &[u64],
-    firsts: &[u8],
-    seconds: &[u8],
-    limit: u8,
+    chart: &[u64; chart::LENGTH],
+    must: bool,
     fresh: u64,
     entered: &[u8],
     place: usize,
     node: u8,
 ) -> Found
-    ensures { λ r. ⌜ foundOf r ≡ firstStepOf (now (neighbours .entry)) (now (firsts .entry)) (now (seconds .entry)) limit fresh (now (entered .entry)) place node ⌝ }
+    ensures { λ r. ⌜ foundOf r ≡ stepIn (now (chart .entry)) must fresh (now (entered .entry)) place node ⌝ }
 {
+    let limit = chart::limit(chart);
+    let rows = chart::row_count(chart);
     let mut found = Found::Nothing;
     let mut i = place;
     let mut j = node;
     'places: while i < entered.len() {
         let pivot = entered[i];
-        let open = spread::open_at(neighbours, fresh, pivot);
+        let open = spread::open_at(chart, must, fresh, pivot);
         'nodes: while j < limit {
-            j += 1;
-            if words::has(open, j) {
-                let mut r: usize = 0;
-                'rows: while r < firsts.len() {
-                    if joins(firsts, seconds, r, pivot, j) {
+            // the next open node; past the limit where there is none
+            j = words::lowest(words::above(open, j));
+            if j <= limit {
+                let mut r = chart::first_row(chart, pivot, j);
+                'rows: while r < rows {
+                    if joins(chart, must, r, pivot, j) {
                         found = Found::At(Step {
                             place: i,
                             node: j,
@@ -73,21 +70,4 @@ pub fn first_step(
         i += 1;
     }
     found
-}
-
-/// The next row above r that joins u and v.
-pub fn next_row(firsts: &[u8], seconds: &[u8], r: usize, u: u8, v: u8) -> RowFound
-    ensures { λ x. ⌜ rowFoundOf x ≡ nextRowOf (now (firsts .entry)) (now (seconds .entry)) r u v ⌝ }
-{
-    if firsts.len() <= r {
-        return RowFound::NoRow;
-    }
-    let mut q = r + 1;
-    while q < firsts.len() {
-        if joins(firsts, seconds, q, u, v) {
-            return RowFound::Row(q);
-        }
-        q += 1;
-    }
-    RowFound::NoRow
 }

@@ -1,10 +1,12 @@
--- What `front` hands to the search: the walk and the tables of an accepted file that has a tree (`searched`); and the front of the tables' network is the file's (`filled-for`).
+-- What `front` hands to the search: the chart and the tables of an accepted file that has a tree (`searched`); and the front of the tables' network is the file's (`filled-for`).
 use mathlib.Core.Path.{_∙_, _≡_, ap, refl, subst, sym}
+use mathlib.Core.Bool.{false, true}
 use mathlib.Core.List.{List, [], _∷_, List·Memᴰ·head as here, map, List·Memᴰ·tail as there}
-use Prim.Native.Nat.{_-_, ℕ}
+use Prim.Native.Nat.{_≤_, ℕ}
 use native.Mathlib.Omega.{arith}
 use lib.Dec.{T}
-use lib.ListN.{take}
+use lib.ListN.{length, take}
+use lib.Seq.{take-all}
 use Rattle.lists.specs.Lists.{first, firstWith}
 use Rattle.lists.proofs.Maps.{map-same}
 use Rattle.lists.proofs.Members.{_∈_}
@@ -13,33 +15,26 @@ use Rattle.graph.specs.Graph.{Graph, isTree}
 use Rattle.graph.specs.Paths.{pathIn}
 use Rattle.graph.proofs.Tree.{minimal-tree, tree-out}
 use Rattle.costs.specs.Costs.{costOf, front, frontOf, frontTrees, frontVectors, treeWith}
-use Rattle.costs.specs.Layouts.{mustRows}
 use Rattle.costs.specs.Network.{Network}
-use Rattle.states.specs.States.{treesWith}
-use Rattle.states.proofs.Open.{layouts-with}
 use Rattle.states.proofs.With.{with-mem}
-use Rattle.network_file.specs.File.{Sizes, networkOf}
+use Rattle.network_file.specs.File.{Sizes, networkOf, sizesOf}
+use Rattle.network_file.proofs.Accepted.{Accepted}
 use Rattle.operations.specs.Operations.{Fronted, layoutsIn, openIn}
-use Rattle.operations.proofs.Exists.{some-out}
-use Rattle.operations.proofs.Files.{formed}
-use Rattle.lists.proofs.Tests.{T-true}
-use Rattle.ends.specs.Ends.{nodesWord}
-use Rattle.page.proofs.Given.{Read, firsts-read, heads-read, seconds-read, tails-read}
-use Rattle.listed.proofs.Answers.{Lists}
-use Rattle.listed.proofs.Given.{file-fitted, file-mustered}
-use Rattle.spread.specs.Spread.{neighboursOf}
-use Rattle.walk.proofs.Behind.{Fitted}
-use Rattle.grow.proofs.Musts.{Mustered}
+use Rattle.chart.specs.Chart.{countIn, firstsIn, graphIn, limitIn, listIn, mustsIn, secondsIn}
+use Rattle.chart.proofs.Charts.{few}
+use Rattle.chart.proofs.Laws.{firsts-length}
 use Rattle.forests.proofs.Forest.{Forest}
 use Rattle.chosen.specs.Chosen.{rowsOn}
 use Rattle.tally.specs.Tally.{tableOf}
 use Rattle.tally.proofs.Same.{same-cost}
-use Rattle.find.specs.Find.{Tables, graphIn}
-use Rattle.costing.specs.Costing.{costsIn, freeIn, kindsIn, leadsIn, mustsIn, tops}
-use Rattle.costing.proofs.Laws.{free-all, free-lie, must-rows, musts-all, musts-forest, same-graph, tabled, tables-in, under-top}
+use Rattle.find.specs.Find.{Tables}
+use Rattle.find.specs.Find as find
+use Rattle.costing.specs.Costing.{costsIn, kindsIn, leadsIn, tops}
+use Rattle.costing.proofs.Laws.{free-all, free-lie, musts-forest, musts-on, same-graph, tabled, tables-in, under-top}
 use Rattle.completions.specs.Boxes.{inside}
 use Rattle.fronted.specs.Filled.{Filled, FilledBy}
-use Rattle.sought.specs.Sought.{Laid, Searched, soughtFront, soughtWitnesses}
+use Rattle.sought.specs.Sought.{Copied, Laid, Searched, soughtFront, soughtWitnesses}
+use Rattle.sought.proofs.Padded.{padded-part, seconds-length}
 
 -- networks that cost the same have the same front of trees, with the same witnesses
 module _ (a b : Network) where
@@ -56,88 +51,89 @@ module _ (a b : Network) where
     unfolding frontTrees treeWith
     trees-same = map-same (treeWith a trees) (treeWith b trees) (frontVectors a trees) (λ v m. ap pathIn (first-same v trees same)) ∙ ap (map (treeWith b trees)) vectors-same
 
-module _ {f firsts seconds heads tails : List ℕ} {limit nodes width k : ℕ} (l : Laid f firsts seconds heads tails limit nodes width k) where
-  abbrev g : Graph
-  g = graphIn firsts seconds limit
+module _ {f c : List ℕ} {k : ℕ} (l : Laid f c k) where
+  abbrev firsts : List ℕ
+  firsts = firstsIn false c
+
+  abbrev seconds : List ℕ
+  seconds = secondsIn false c
+
+  abbrev heads : List ℕ
+  heads = firstsIn true c
+
+  abbrev table : Graph
+  table = find.graphIn firsts seconds (limitIn c)
 
   abbrev w : Network
   w = tableOf (kindsIn f) k (costsIn f) (leadsIn f)
 
-  graph-is : g ≡ openIn f
-  graph-is = (rw (l .first-ends, l .second-ends, l .all-nodes)) ∙ same-graph f
+  accepted : Accepted f
+  accepted = l .listing .lists .file
 
-  musts-are : rowsOn heads ≡ mustRows (networkOf f)
-  musts-are = ap rowsOn (l .must-firsts) ∙ must-rows f (l .accepted)
+  first-ends : firsts ≡ openIn f .firstEnds
+  first-ends = ap (λ (x : Graph). x .firstEnds) (l .listing .graph)
 
-  entries-are : treesWith g (rowsOn heads) ≡ layoutsIn f
-  entries-are = rw (graph-is, musts-are) (sym (layouts-with (networkOf f) (formed f (l .accepted))))
+  second-ends : seconds ≡ openIn f .secondEnds
+  second-ends = ap (λ (x : Graph). x .secondEnds) (l .listing .graph)
 
-  tables : Tables firsts seconds limit k
-  tables = rw (l .first-ends, l .second-ends, l .all-nodes, l .criteria) (tables-in f (l .accepted))
+  all-nodes : limitIn c ≡ sizesOf f .n
+  all-nodes = l .listing .limit ∙ ap (λ (s : Sizes). s .n) (l .listing .lists .sizes)
 
-  module _ (p : List ℕ) (m : p ∈ treesWith g (rowsOn heads)) where
-    is-tree : T (isTree g p)
-    is-tree = minimal-tree g (tables .formed) p (with-mem g (tables .formed) (rowsOn heads) p .0 m .0)
+  criteria : k ≡ sizesOf f .k
+  criteria = l .criteria ∙ ap (λ (s : Sizes). s .k) (l .listing .lists .sizes)
+
+  graph-is : table ≡ graphIn c
+  graph-is = (rw (first-ends, second-ends, all-nodes)) ∙ same-graph f ∙ sym (l .listing .graph)
+
+  tables : Tables firsts seconds (limitIn c) k
+  tables = rw (first-ends, second-ends, all-nodes, criteria) (tables-in f accepted)
+
+  musts-are : rowsOn heads ≡ mustsIn c
+  musts-are = musts-on heads (omega (arith, firsts-length true c))
+
+  -- the must rows make no ring, and are at most 31
+  forest : Forest (openIn f) (mustsIn c) × (length (mustsIn c) ≤ 31)
+  forest = let (p, m) = l .listing .some-tree in rw (l .listing .musts) (musts-forest f accepted p (subst (λ (x : List (List ℕ)). p ∈ x) (l .listing .list) m))
+
+  module _ (p : List ℕ) (m : p ∈ listIn c) where
+    is-tree : T (isTree (graphIn c) p)
+    is-tree = let wf = l .listing .right .charted .formed in minimal-tree (graphIn c) wf p (with-mem (graphIn c) wf (mustsIn c) p .0 m .0)
 
     same : costOf w p ≡ costOf (networkOf f) p
-    same = same-cost (networkOf f) (kindsIn f) k (costsIn f) (leadsIn f) (rw (l .criteria) (tabled f (l .accepted))) p (tree-out g p is-tree .once)
-        (λ r i. omega (arith, tree-out g p is-tree .rows r i, tables .few-rows))
+    same = same-cost (networkOf f) (kindsIn f) k (costsIn f) (leadsIn f) (rw criteria (tabled f accepted)) p (tree-out (graphIn c) p is-tree .once)
+        (λ r i. omega (arith, tree-out (graphIn c) p is-tree .rows r i, few c))
 
     under : T (inside (take k tops) (costOf w p))
-    under = rw (same, l .criteria) (under-top f (l .accepted) p (subst (λ (x : Graph). T (isTree x p)) graph-is is-tree))
+    under = rw (same, criteria) (under-top f accepted p (subst (λ (x : Graph). T (isTree x p)) (l .listing .graph) is-tree))
 
-  pub searched : (musts : List ℕ) → musts ≡ take 31 (mustsIn heads)
-      → Searched (neighboursOf firsts seconds) firsts seconds (neighboursOf heads tails) heads tails limit 1 nodes width (kindsIn f) k (costsIn f) (leadsIn f)
-      musts (freeIn firsts seconds heads limit)
-  searched musts e = record {
-    ready = record {
-      tables = tables;
-      fitted = subst (λ (x : Graph). Fitted x (neighboursOf firsts seconds) limit nodes width) (sym graph-is)
-          (rw (l .first-ends, l .second-ends, l .all-nodes, l .word-is, l .wide) (file-fitted f (l .accepted)));
-      mustered = subst (λ (x : Graph). Mustered x (neighboursOf firsts seconds) (neighboursOf heads tails) heads tails limit (rowsOn heads)) (sym graph-is)
-          (rw (musts-are, l .first-ends, l .second-ends, l .must-firsts, l .must-seconds, l .all-nodes) (file-mustered f (l .accepted)));
-      planted = refl;
-    };
-    musts-are = all-musts;
+  given : Searched c (firstsIn false c) (secondsIn false c) (firstsIn true c) (kindsIn f) k (costsIn f) (leadsIn f)
+  given = record {
+    ready = record { right = l .listing .right; tables = tables; graph-is = graph-is; musts-are = musts-are };
+    all-musts = ap (take 31) musts-are ∙ take-all 31 (mustsIn c) (forest .1);
     ground = record {
       tables = tables;
-      forest = subst (Forest g) (sym (all-musts ∙ musts-are)) (subst (λ (x : Graph). Forest x (mustRows (networkOf f))) (sym graph-is) (musts-forest f (l .accepted) (l .tree) (l .listed) .0));
-      lies = λ r m. free-lie firsts seconds heads limit r m;
-      all-free = λ r h n. free-all firsts seconds heads limit r (tables .few-rows) h (λ i. n (subst (λ (x : List ℕ). r ∈ x) (sym all-musts) i));
+      forest = subst (λ (x : Graph). Forest x (mustsIn c)) (sym (graph-is ∙ l .listing .graph)) (forest .0);
+      lies = λ r m. free-lie firsts seconds heads (limitIn c) r m;
+      all-free = λ r h n. free-all firsts seconds heads (limitIn c) r (tables .few-rows) h (λ i. n (subst (λ (x : List ℕ). r ∈ x) musts-are i));
     };
     under = under;
   }
-    where
-      all-musts : musts ≡ rowsOn heads
-      all-musts = e ∙ (rw (l .must-firsts) (musts-all f (l .accepted) (l .tree) (l .listed))) ∙ sym musts-are
+
+  -- the rows' ends are the first places of the arrays
+  pub searched : {m : ℕ} {firsts seconds heads : List ℕ} → m ≡ countIn c → Copied c firsts seconds heads
+      → Searched c (take m firsts) (take m seconds) (take m heads) (kindsIn f) k (costsIn f) (leadsIn f)
+  searched {m} count copied =
+      let low : m ≤ 256 = omega arith in
+      let firsts = padded-part (firstsIn false c) m (firsts-length false c ∙ sym count) low in
+      let seconds = padded-part (secondsIn false c) m (seconds-length false c ∙ sym count) low in
+      let heads = padded-part (firstsIn true c) m (firsts-length true c ∙ sym count) low in
+      rw (copied .first-ends, copied .second-ends, copied .must-firsts, firsts, seconds, heads) given
 
   -- the front that is sought is the file's
   pub filled-for : {capacity : ℕ} {costs witnesses costs′ witnesses′ : List ℕ} {r : Outcome Fronted}
-      → FilledBy (soughtFront firsts seconds heads limit (kindsIn f) k (costsIn f) (leadsIn f)) (soughtWitnesses firsts seconds heads limit (kindsIn f) k (costsIn f) (leadsIn f))
-      capacity costs witnesses r costs′ witnesses′
+      → FilledBy (soughtFront c (kindsIn f) k (costsIn f) (leadsIn f)) (soughtWitnesses c (kindsIn f) k (costsIn f) (leadsIn f)) capacity costs witnesses r costs′ witnesses′
       → Filled f capacity costs witnesses r costs′ witnesses′
   filled-for h =
-      let vectors : frontVectors w (treesWith g (rowsOn heads)) ≡ front (networkOf f) =
-      vectors-same w (networkOf f) (treesWith g (rowsOn heads)) same ∙ ap (frontVectors (networkOf f)) entries-are in
-      let trees : frontTrees w (treesWith g (rowsOn heads)) ≡ frontTrees (networkOf f) (layoutsIn f) =
-      trees-same w (networkOf f) (treesWith g (rowsOn heads)) same ∙ ap (frontTrees (networkOf f)) entries-are in
+      let vectors : frontVectors w (listIn c) ≡ front (networkOf f) = vectors-same w (networkOf f) (listIn c) same ∙ ap (frontVectors (networkOf f)) (l .listing .list) in
+      let trees : frontTrees w (listIn c) ≡ frontTrees (networkOf f) (layoutsIn f) = trees-same w (networkOf f) (listIn c) same ∙ ap (frontTrees (networkOf f)) (l .listing .list) in
       rw (← vectors, ← trees) h
-
--- what `front` reads of the file
-pub laid : {f : List ℕ} {h : Sizes} (l : Lists f h) {firsts seconds heads tails : List ℕ} {nodes : ℕ} → Read f h firsts seconds heads tails nodes
-    → Laid f (take (h .m) firsts) (take (h .m) seconds) (take (h .m) heads) (take (h .m) tails) (h .n) nodes (h .n - 1) (h .k)
-laid {f} l r =
-    let (p, m) = some-out (layoutsIn f) (T-true _ .1 (l .tree)) in
-    record {
-      accepted = l .file;
-      first-ends = firsts-read l r;
-      second-ends = seconds-read l r;
-      must-firsts = heads-read l r;
-      must-seconds = tails-read l r;
-      all-nodes = ap (λ (s : Sizes). s .n) (l .sizes);
-      word-is = r .word ∙ ap (λ (s : Sizes). nodesWord (s .n)) (l .sizes);
-      wide = ap (λ (s : Sizes). s .n - 1) (l .sizes);
-      criteria = ap (λ (s : Sizes). s .k) (l .sizes);
-      tree = p;
-      listed = m;
-    }

@@ -1,3 +1,4 @@
+pub mod Padded
 pub mod Seeking
 pub mod Tables
 pub mod Given

@@ -27,18 +27,18 @@ use Rattle.tables.proofs.Known.{Known}
 use Rattle.pages.specs.Pages.{flat, pieces}
 use Rattle.pages.proofs.Pages.{pieces-flat}
 use Rattle.passes.proofs.Written.{over-length, over-more, part-long}
-use Rattle.states.specs.States.{treesWith}
 use Rattle.states.proofs.With.{with-part}
 use Rattle.operations.specs.Operations.{over}
 use Rattle.completions.specs.Boxes.{inside}
 use Rattle.completions.proofs.Least.{Lowered, Open, region-whole}
-use Rattle.completions.proofs.NextRow.{Of, all-known, known-empty, good-value, known-first, known-more, values, values-sized}
+use Rattle.completions.proofs.NextRow.{Good, Of, all-known, known-empty, good-value, known-first, known-more, values, values-sized}
 use Rattle.completions.proofs.Boxes.{inside-at}
 use Rattle.completions.proofs.Witness.{Fine, NoneBefore, witness-is, witness-some}
 use Rattle.chosen.specs.Chosen.{rowsOn}
+use Rattle.chart.specs.Chart.{graphIn, limitIn, listIn, mustsIn, widthIn}
 use Rattle.tally.specs.Tally.{kindOf, tableOf}
-use Rattle.find.specs.Find.{graphIn}
-use Rattle.costing.specs.Costing.{tops}
+use Rattle.find.specs.Find as find
+use Rattle.costing.specs.Costing.{freeIn, tops}
 use Rattle.least.specs.Least.{knownRows, leastOf}
 use Rattle.least.specs.declared.Best.{Best}
 use Rattle.paths.specs.Path.{rowsIn}
@@ -92,54 +92,63 @@ step-is k c x h l = rw (lt-ltb c k h) (omega arith)
 pub up-past : (k : ℕ) (v : List ℕ) (c : ℕ) → k ≤ c → c < 4 → 0 < getD (upFrom k v) c 0
 up-past k v c h l = rw (up-at k v c l, le-ltb c k h) (omega arith)
 
-module _ {nb firsts seconds mustNb heads tails : List ℕ} {limit plant nodes width : ℕ} {kinds : List ℕ} {k : ℕ} {prices leads musts free : List ℕ}
-    (s : Searched nb firsts seconds mustNb heads tails limit plant nodes width kinds k prices leads musts free) (four : length kinds ≡ 4)
-    {capacity : ℕ} {costs₀ witnesses₀ : List ℕ} (lent : Holding capacity k width costs₀ witnesses₀) where
+-- the search is asked with the chart's greatest node, its must rows and the free rows
+pub next-on : {c firsts seconds heads kinds : List ℕ} {k : ℕ} {prices leads : List ℕ} → Searched c firsts seconds heads kinds k prices leads → {limit : ℕ} {musts free : List ℕ}
+    → limit ≡ limitIn c → musts ≡ take 31 (rowsOn heads) → free ≡ freeIn firsts seconds heads limit → (costs : List ℕ) (n : ℕ) (best : Best)
+    → NextOf firsts seconds limit kinds k prices leads musts free costs n best
+    → NextOf firsts seconds (limitIn c) kinds k prices leads (mustsIn c) (freeIn firsts seconds heads (limitIn c)) costs n best
+next-on {firsts = firsts} {seconds = seconds} {heads = heads} s at all rest costs n best next = rw (rest, at, all ∙ s .all-musts) at next
+
+module _ {c firsts seconds heads kinds : List ℕ} {k : ℕ} {prices leads : List ℕ} (s : Searched c firsts seconds heads kinds k prices leads) (four : length kinds ≡ 4)
+    {capacity : ℕ} {costs₀ witnesses₀ : List ℕ} (lent : Holding capacity k (widthIn c) costs₀ witnesses₀) where
   abbrev g : Graph
-  g = graphIn firsts seconds limit
+  g = graphIn c
+
+  abbrev width : ℕ
+  width = widthIn c
+
+  abbrev must : List ℕ
+  must = mustsIn c
 
   abbrev w : Network
   w = tableOf kinds k prices leads
 
-  abbrev entries : List (List ℕ)
-  entries = treesWith g (rowsOn heads)
-
   abbrev F : List (List ℕ)
-  F = soughtFront firsts seconds heads limit kinds k prices leads
+  F = soughtFront c kinds k prices leads
 
   abbrev L : List (List ℕ)
-  L = soughtWitnesses firsts seconds heads limit kinds k prices leads
+  L = soughtWitnesses c kinds k prices leads
 
   abbrev wf : WellFormed g
-  wf = s .ready .tables .formed
+  wf = s .ready .right .charted .formed
 
   kinds-long : length (w .kinds) ≡ k
   unfolding tableOf
   kinds-long = length-map (take k kinds) kindOf ∙ length-take-le k kinds (omega (arith, four, s .ready .tables .few-criteria))
 
   vectors-long : Sized k F
-  vectors-long v m = values-sized g wf w (rowsOn heads) v (front-out (values g wf w (rowsOn heads)) m .0) ∙ kinds-long
+  vectors-long v m = values-sized g wf w must v (front-out (values g wf w must) m .0) ∙ kinds-long
 
   trees-long : Sized width L
-  trees-long p m = omega (arith, part-length (with-part g (rowsOn heads)) p (front-listed w entries p m), s .ready .fitted .wide)
+  trees-long p m = omega (arith, part-length (with-part g must) p (front-listed w (listIn c) p m), s .ready .right .wide)
 
   trees-few : length L ≡ length F
-  trees-few = front-trees-length w entries
+  trees-few = front-trees-length w (listIn c)
 
-  tops-past : (c : ℕ) → k ≤ c → c < 4 → 0 < getD tops c 0
-  tops-past c h l = omega (arith, tops-at c l)
+  tops-past : (i : ℕ) → k ≤ i → i < 4 → 0 < getD tops i 0
+  tops-past i h l = omega (arith, tops-at i l)
 
   -- the first n rows stand in the tables
   pub record Standing (n : ℕ) (costs witnesses : List ℕ) : Type 0 where
     pub few : n ≤ length F
     pub fits : n ≤ capacity
-    pub known : Known (values g wf w (rowsOn heads)) (take n F)
+    pub known : Known (values g wf w must) (take n F)
     pub costs-are : costs ≡ over (flat (take n F)) costs₀
     pub witnesses-are : witnesses ≡ over (flat (take n L)) witnesses₀
 
   pub standing-start : Standing 0 costs₀ witnesses₀
   unfolding flat
-  standing-start = record { few = omega arith; fits = omega arith; known = known-empty g wf w (rowsOn heads); costs-are = refl; witnesses-are = refl }
+  standing-start = record { few = omega arith; fits = omega arith; known = known-empty g wf w must; costs-are = refl; witnesses-are = refl }
 
   module _ {n : ℕ} {costs witnesses : List ℕ} (st : Standing n costs witnesses) where
     known-fits : (x : ℕ) → n * x ≤ capacity * x
@@ -174,38 +183,48 @@ module _ {nb firsts seconds mustNb heads tails : List ℕ} {limit plant nodes wi
         ∙ ap (pieces k (length (take n F))) (sym (append-nil (flat (take n F))))
         ∙ pieces-flat k (take n F) [] (λ v m. vectors-long v (take-out n F m))
 
-    module _ (best : Best) (next : NextOf firsts seconds limit kinds k prices leads musts free costs n best) where
+    module _ (best : Best) (next : NextOf firsts seconds (limitIn c) kinds k prices leads (mustsIn c) (freeIn firsts seconds heads (limitIn c)) costs n best) where
       abbrev OfHere : List ℕ → Type 0
-      OfHere = Of g wf w (rowsOn heads)
+      OfHere = Of g wf w must
+
+      -- the search is over the graph of its tables, which is the chart's
+      abbrev table : Graph
+      table = find.graphIn firsts seconds (limitIn c)
+
+      abbrev OfIn : Graph → List ℕ → Type 0
+      OfIn x v = (p : List ℕ) × Good x must p × (costOf w p ≡ v)
 
       -- what was found is the next row of the front
       lowered : Lowered OfHere (Open (take n F) (take k tops)) (Open (take n F) (take k tops)) none (leastOf k best)
-      lowered = subst (λ (m : List ℕ). Lowered (Of g wf w m) (Open (take n F) (take k tops)) (Open (take n F) (take k tops)) none (leastOf k best)) (s .musts-are)
-          (subst (λ (rows : List (List ℕ)). Lowered (Of g wf w musts) (Open rows (take k tops)) (Open rows (take k tops)) none (leastOf k best)) known-rows
-          (region-whole (Of g wf w musts) (knownRows k (take (n * k) costs)) lowest (take k tops) none (leastOf k best) nothing-below (next (s .ground) tops-past)))
+      lowered =
+          subst (λ (x : Graph). Lowered (OfIn x) (Open (take n F) (take k tops)) (Open (take n F) (take k tops)) none (leastOf k best)) (s .ready .graph-is)
+          (subst (λ (rows : List (List ℕ)). Lowered (OfIn table) (Open rows (take k tops)) (Open rows (take k tops)) none (leastOf k best)) known-rows
+          (region-whole (OfIn table) (knownRows k (take (n * k) costs)) lowest (take k tops) none (leastOf k best) nothing-below (next (s .ground) tops-past)))
 
       under : (v : List ℕ) → OfHere v → T (inside (take k tops) v)
       under v o =
-          let (p, i, e) = map-out (costOf w) entries (good-value g wf w (rowsOn heads) v .0 o) in
+          let (p, i, e) = map-out (costOf w) (listIn c) (good-value g wf w must v .0 o) in
           subst (λ (x : List ℕ). T (inside (take k tops) x)) e (s .under p i)
 
       pub row-whole : best .some ≡ false → FilledBy F L capacity costs₀ witnesses₀ (answered (record { count = n; whole = true })) costs witnesses
       row-whole e =
-          let all : take n F ≡ F = all-known g wf w (rowsOn heads) (take n F) (st .known) (take k tops) under (subst (Lowered OfHere _ _ none) (ap (λ b. pick b (some (take k (best .vector))) none) e) lowered) in
+          let least = subst (Lowered OfHere _ _ none) (ap (λ b. pick b (some (take k (best .vector))) none) e) lowered in
+          let all : take n F ≡ F = all-known g wf w must (take n F) (st .known) (take k tops) under least in
           let end : length F ≡ n = sym (ap length all) ∙ length-take-le n F (st .few) in
           let count : min (length F) capacity ≡ n = omega (arith, st .fits) in
           record {
             answer = rw (count, le-leb _ _ (subst (λ (x : ℕ). x ≤ capacity) (sym end) (st .fits)));
             costs-are = st .costs-are ∙ ap (λ (x : List (List ℕ)). over (flat x) costs₀) (take-all n F (omega (arith, end)) ∙ sym (take-all capacity F (omega (arith, end, st .fits))));
-            witnesses-are = st .witnesses-are ∙ ap (λ (x : List (List ℕ)). over (flat x) witnesses₀) (take-all n L (omega (arith, end, trees-few)) ∙ sym (take-all capacity L (omega (arith, end, st .fits, trees-few))));
+            witnesses-are = st .witnesses-are ∙ ap (λ (x : List (List ℕ)). over (flat x) witnesses₀)
+                (take-all n L (omega (arith, end, trees-few)) ∙ sym (take-all capacity L (omega (arith, end, st .fits, trees-few))));
           }
 
       module _ (found : best .some ≡ true) where
         abbrev v : List ℕ
         v = take k (best .vector)
 
-        more : Known (values g wf w (rowsOn heads)) (take n F ++ (v ∷ [])) × (v ∈ F) × (length (take n F) < length F)
-        more = known-more g wf w (rowsOn heads) (take n F) (st .known) (take k tops) under v (subst (Lowered OfHere _ _ none) (ap (λ b. pick b (some (take k (best .vector))) none) found) lowered)
+        more : Known (values g wf w must) (take n F ++ (v ∷ [])) × (v ∈ F) × (length (take n F) < length F)
+        more = known-more g wf w must (take n F) (st .known) (take k tops) under v (subst (Lowered OfHere _ _ none) (ap (λ b. pick b (some (take k (best .vector))) none) found) lowered)
 
         longer : n < length F
         longer = omega (arith, more .2, length-take-le n F (st .few))
@@ -220,51 +239,52 @@ module _ {nb firsts seconds mustNb heads tails : List ℕ} {limit plant nodes wi
             }
 
         -- each component is below the top
-        low : (c : ℕ) → c < k → getD (best .vector) c 0 < 33554432
-        low c h =
-            let o = good-value g wf w (rowsOn heads) v .1 (front-out (values g wf w (rowsOn heads)) (more .1) .0) in
+        low : (i : ℕ) → i < k → getD (best .vector) i 0 < 33554432
+        low i h =
+            let o = good-value g wf w must v .1 (front-out (values g wf w must) (more .1) .0) in
             omega (
               arith,
-              inside-at (take k tops) v c (under v o) (omega (arith, vectors-long v (more .1))),
-              getD-take k (best .vector) c 0 h,
-              getD-take k tops c 0 h,
-              tops-at c (omega (arith, s .ready .tables .few-criteria)),
+              inside-at (take k tops) v i (under v o) (omega (arith, vectors-long v (more .1))),
+              getD-take k (best .vector) i 0 h,
+              getD-take k tops i 0 h,
+              tops-at i (omega (arith, s .ready .tables .few-criteria)),
             )
 
         pub row-read : take k (rowOf (best .vector)) ≡ v
         row-read =
             let few = s .ready .tables .few-criteria in
             let long = four-long k (best .vector) few .0 in
-            ext-getD 0 (take k (rowOf (best .vector))) v (long ∙ sym (vectors-long v (more .1))) (λ c h.
-            let inside-k : c < k = omega (arith, long) in
-            getD-take k (rowOf (best .vector)) c 0 inside-k ∙ row-at (best .vector) c (omega arith) ∙ mod-eq-of-lt (omega (arith, low c inside-k)) ∙ sym (getD-take k (best .vector) c 0 inside-k))
+            ext-getD 0 (take k (rowOf (best .vector))) v (long ∙ sym (vectors-long v (more .1))) (λ i h.
+            let inside-k : i < k = omega (arith, long) in
+            getD-take k (rowOf (best .vector)) i 0 inside-k ∙ row-at (best .vector) i (omega arith) ∙ mod-eq-of-lt (omega (arith, low i inside-k))
+            ∙ sym (getD-take k (best .vector) i 0 inside-k))
 
         ups : take k (upFrom k (best .vector)) ≡ map suc v
-        ups = ext-getD 0 (take k (upFrom k (best .vector))) (map suc v) (long ∙ sym (length-map v suc ∙ vectors-long v (more .1))) (λ c h. at c (omega (arith, long)))
+        ups = ext-getD 0 (take k (upFrom k (best .vector))) (map suc v) (long ∙ sym (length-map v suc ∙ vectors-long v (more .1))) (λ i h. at i (omega (arith, long)))
           where
             long : length (take k (upFrom k (best .vector))) ≡ k
             long = four-long k (best .vector) (s .ready .tables .few-criteria) .1
 
-            at : (c : ℕ) → c < k → getD (take k (upFrom k (best .vector))) c 0 ≡ getD (map suc v) c 0
-            at c h =
-                getD-take k (upFrom k (best .vector)) c 0 h
-                ∙ up-at k (best .vector) c (omega (arith, s .ready .tables .few-criteria))
-                ∙ step-is k c (getD (best .vector) c 0) h (low c h)
-                ∙ sym (map-at suc v c 0 0 (omega (arith, vectors-long v (more .1))) ∙ ap suc (getD-take k (best .vector) c 0 h))
+            at : (i : ℕ) → i < k → getD (take k (upFrom k (best .vector))) i 0 ≡ getD (map suc v) i 0
+            at i h =
+                getD-take k (upFrom k (best .vector)) i 0 h
+                ∙ up-at k (best .vector) i (omega (arith, s .ready .tables .few-criteria))
+                ∙ step-is k i (getD (best .vector) i 0) h (low i h)
+                ∙ sym (map-at suc v i 0 0 (omega (arith, vectors-long v (more .1))) ∙ ap suc (getD-take k (best .vector) i 0 h))
 
-        pub row-wanted : Wanted firsts seconds heads limit kinds k prices leads (upFrom k (best .vector))
-        row-wanted = subst (λ (x : List ℕ). (q : List ℕ) × Fine g w (rowsOn heads) x q) (sym ups) (witness-some g w (rowsOn heads) v (more .1))
+        pub row-wanted : Wanted c kinds k prices leads (upFrom k (best .vector))
+        row-wanted = subst (λ (x : List ℕ). (q : List ℕ) × Fine g w must x q) (sym ups) (witness-some g w must v (more .1))
 
-        module _ (path : Path) (first : First firsts seconds heads limit kinds k prices leads (upFrom k (best .vector)) path) where
-          witness : treeWith w entries v ≡ rowsIn path
-          witness = witness-is g w (rowsOn heads) v (more .1) (rowsIn path) (subst (λ (x : List ℕ). Fine g w (rowsOn heads) x (rowsIn path)) ups (first .fine))
-              (subst (λ (x : List ℕ). NoneBefore g w (rowsOn heads) x (rowsIn path)) ups (first .none-before))
+        module _ (path : Path) (first : First c kinds k prices leads (upFrom k (best .vector)) path) where
+          witness : treeWith w (listIn c) v ≡ rowsIn path
+          witness = witness-is g w must v (more .1) (rowsIn path) (subst (λ (x : List ℕ). Fine g w must x (rowsIn path)) ups (first .fine))
+              (subst (λ (x : List ℕ). NoneBefore g w must x (rowsIn path)) ups (first .none-before))
 
           pub path-long : length (rowsIn path) ≡ width
-          path-long = omega (arith, part-length (with-part g (rowsOn heads)) (rowsIn path) (first .fine .0), s .ready .fitted .wide)
+          path-long = omega (arith, part-length (with-part g must) (rowsIn path) (first .fine .0), s .ready .right .wide)
 
           next-vectors : take n F ++ (v ∷ []) ≡ take (n + 1) F
-          next-vectors = known-first g wf w (rowsOn heads) (take n F ++ (v ∷ [])) (more .0)
+          next-vectors = known-first g wf w must (take n F ++ (v ∷ [])) (more .0)
               ∙ ap (λ (m : ℕ). take m F) (length-snoc (take n F) v ∙ ap suc (length-take-le n F (st .few)) ∙ sym (add-one n))
 
           vector-here : take 1 (drop n F) ≡ v ∷ []
@@ -273,7 +293,7 @@ module _ {nb firsts seconds mustNb heads tails : List ℕ} {limit plant nodes wi
 
           tree-here : take 1 (drop n L) ≡ rowsIn path ∷ []
           unfolding frontTrees
-          tree-here = ap (take 1) (sym (map-drop (treeWith w entries) n F)) ∙ sym (map-take (treeWith w entries) 1 (drop n F)) ∙ ap (map (treeWith w entries)) vector-here
+          tree-here = ap (take 1) (sym (map-drop (treeWith w (listIn c)) n F)) ∙ sym (map-take (treeWith w (listIn c)) 1 (drop n F)) ∙ ap (map (treeWith w (listIn c))) vector-here
               ∙ ap (λ (p : List ℕ). p ∷ []) witness
 
           module _ (fits : ¬ (n ≡ capacity)) (costs′ witnesses′ row trees : List ℕ) (new-costs : costs′ ≡ paste costs (n * k) row k) (is-row : take k row ≡ v)
@@ -283,7 +303,7 @@ module _ {nb firsts seconds mustNb heads tails : List ℕ} {limit plant nodes wi
             row-more = record {
               few = omega (arith, longer);
               fits = omega (arith, st .fits);
-              known = subst (Known (values g wf w (rowsOn heads))) next-vectors (more .0);
+              known = subst (Known (values g wf w must)) next-vectors (more .0);
               costs-are = new-costs ∙ ap (λ (x : ℕ). paste costs (n * k) row x) (sym (one-mul k)) ∙ (rw (st .costs-are)
                   (over-more k F vectors-long n (st .few) costs₀ 1 1 row (omega arith) (omega (arith, longer)) (ap (λ (x : List ℕ). x ∷ []) is-row ∙ sym vector-here)));
               witnesses-are = new-witnesses ∙ ap (λ (x : ℕ). paste witnesses (n * width) trees x) (sym (one-mul width)) ∙ (rw (st .witnesses-are)

@@ -5,13 +5,13 @@ ghost use Prim.Native.Nat.{_*_, _+_, _<_, _≤_, ℕ};
 ghost use lib.ListN.{getD, length};
 ghost use lib.Seq.{paste};
 ghost use Rattle.operations.specs.Operations.{frontCall};
+ghost use Rattle.chart.specs.Chart.{widthIn};
 ghost use Rattle.chosen.specs.Chosen.{rowsOf};
 ghost use Rattle.fronted.specs.Answers.{frontedOf};
 ghost use Rattle.fronted.specs.Filled.{Filled, FilledBy, Holding};
 ghost use Rattle.paths.specs.Path.{rowsIn};
-ghost use Rattle.sought.specs.Sought.{First, Laid, NextOf, Ready, Searched, Wanted, rowOf, soughtFront, soughtWitnesses, stepUp, upFrom};
+ghost use Rattle.sought.specs.Sought.{Copied, First, Laid, NextOf, Ready, Searched, Wanted, rowOf, soughtFront, soughtWitnesses, stepUp, upFrom};
 use chosen::Chosen;
-use ends::Rows;
 use fronted::FrontAnswer;
 use least::Best;
 use network::Opened;
@@ -43,39 +43,53 @@ fn limits_above(k: u8, v: [u64; 4]) -> [u64; 4]
     ]
 }
 
+// The first ends of the rows, their second ends, and the first ends of the must rows, each with 0 past the rows.
+struct Ends {
+    firsts: [u8; 256],
+    seconds: [u8; 256],
+    heads: [u8; 256],
+}
+
+// The ends of a chart's rows as arrays.
+fn ends_of(chart: &[u64; chart::LENGTH]) -> Ends
+    ensures { λ r. ⌜ Copied (now (chart .entry)) (r .firsts) (r .seconds) (r .heads) ⌝ }
+{
+    let mut firsts = [0u8; 256];
+    let mut seconds = [0u8; 256];
+    let mut heads = [0u8; 256];
+    let m = chart::row_count(chart);
+    let mut r: usize = 0;
+    while r < m {
+        firsts[r] = chart::first_end(chart, false, r);
+        seconds[r] = chart::second_end(chart, false, r);
+        heads[r] = chart::first_end(chart, true, r);
+        r += 1;
+    }
+    Ends {
+        firsts: firsts,
+        seconds: seconds,
+        heads: heads,
+    }
+}
+
 // The first path of the list inside the limits: on by a step while a wanted path begins so, else behind all paths that begin so.
 fn witness(
-    neighbours: &[u64],
+    chart: &[u64; chart::LENGTH],
     firsts: &[u8],
     seconds: &[u8],
-    claims: &[u64],
     heads: &[u8],
-    tails: &[u8],
-    limit: u8,
-    plant: u8,
-    nodes: u64,
-    width: usize,
     kinds: [u8; 4],
     k: u8,
     prices: &[u32],
     leads: &[u8],
     limits: [u64; 4],
 ) -> Path
-    requires { ⌜ Ready (now neighbours) (now firsts) (now seconds) (now claims) (now heads) (now tails) limit plant nodes width k × ((c : ℕ) → k ≤ c → c < 4 → 0 < getD limits c 0) × Wanted (now firsts) (now seconds) (now heads) limit kinds k (now prices) (now leads) limits ⌝ }
-    ensures { λ r. ⌜ First (now (firsts .entry)) (now (seconds .entry)) (now (heads .entry)) limit kinds k (now (prices .entry)) (now (leads .entry)) limits r ⌝ }
+    requires { ⌜ Ready (now chart) (now firsts) (now seconds) (now heads) k × ((c : ℕ) → k ≤ c → c < 4 → 0 < getD limits c 0) × Wanted (now chart) kinds k (now prices) (now leads) limits ⌝ }
+    ensures { λ r. ⌜ First (now (chart .entry)) kinds k (now (prices .entry)) (now (leads .entry)) limits r ⌝ }
 {
-    let mut path = grow::first_path(
-        neighbours,
-        firsts,
-        seconds,
-        claims,
-        heads,
-        tails,
-        limit,
-        plant,
-        nodes,
-        width,
-    );
+    let limit = chart::limit(chart);
+    let width = chart::width(chart);
+    let mut path = grow::first_path(chart);
     let mut len: usize = 0;
     while len < width {
         if branch::opens(
@@ -93,19 +107,7 @@ fn witness(
         ) {
             len += 1;
         } else {
-            let next = walk::after(
-                neighbours,
-                firsts,
-                seconds,
-                claims,
-                heads,
-                tails,
-                limit,
-                nodes,
-                width,
-                path,
-                len + 1,
-            );
+            let next = walk::after(chart, path, len + 1);
             path = next.path;
         }
     }
@@ -178,29 +180,25 @@ fn write(
 
 // Row after row until none is left, or no more fit.
 fn rows(
-    neighbours: &[u64],
+    chart: &[u64; chart::LENGTH],
     firsts: &[u8],
     seconds: &[u8],
-    claims: &[u64],
     heads: &[u8],
-    tails: &[u8],
-    limit: u8,
-    plant: u8,
-    nodes: u64,
-    width: usize,
     kinds: [u8; 4],
     k: u8,
     prices: &[u32],
     leads: &[u8],
-    musts: Chosen,
-    free: [u8; 256],
     capacity: usize,
     costs: &mut [u32],
     witnesses: &mut [u16],
 ) -> FrontAnswer
-    requires { ⌜ Searched (now neighbours) (now firsts) (now seconds) (now claims) (now heads) (now tails) limit plant nodes width kinds k (now prices) (now leads) (rowsOf musts) free × Holding capacity k width (now costs) (now witnesses) ⌝ }
-    ensures { λ r. ⌜ FilledBy (soughtFront (now (firsts .entry)) (now (seconds .entry)) (now (heads .entry)) limit kinds k (now (prices .entry)) (now (leads .entry))) (soughtWitnesses (now (firsts .entry)) (now (seconds .entry)) (now (heads .entry)) limit kinds k (now (prices .entry)) (now (leads .entry))) capacity (now (costs .entry)) (now (witnesses .entry)) (frontedOf r) (now (costs .exit)) (now (witnesses .exit)) ⌝ }
+    requires { ⌜ Searched (now chart) (now firsts) (now seconds) (now heads) kinds k (now prices) (now leads) × Holding capacity k (widthIn (now chart)) (now costs) (now witnesses) ⌝ }
+    ensures { λ r. ⌜ FilledBy (soughtFront (now (chart .entry)) kinds k (now (prices .entry)) (now (leads .entry))) (soughtWitnesses (now (chart .entry)) kinds k (now (prices .entry)) (now (leads .entry))) capacity (now (costs .entry)) (now (witnesses .entry)) (frontedOf r) (now (costs .exit)) (now (witnesses .exit)) ⌝ }
 {
+    let limit = chart::limit(chart);
+    let width = chart::width(chart);
+    let musts = costing::musts_of(heads);
+    let free = costing::free_of(firsts, seconds, heads, limit);
     let mut count: usize = 0;
     loop {
         let next = next_row(
@@ -231,16 +229,10 @@ fn rows(
         let v = next.vector;
         let limits = limits_above(k, v);
         let path = witness(
-            neighbours,
+            chart,
             firsts,
             seconds,
-            claims,
             heads,
-            tails,
-            limit,
-            plant,
-            nodes,
-            width,
             kinds,
             k,
             prices,
@@ -252,45 +244,34 @@ fn rows(
     }
 }
 
-// The same, with the neighbours and the tables still to be made.
+// The same, with the tables still to be made, of the chart and of the file that it is of.
 fn fill(
     file: &[u8],
-    firsts: &[u8],
-    seconds: &[u8],
-    heads: &[u8],
-    tails: &[u8],
-    limit: u8,
-    nodes: u64,
-    width: usize,
+    chart: &[u64; chart::LENGTH],
     k: u8,
     capacity: usize,
     costs: &mut [u32],
     witnesses: &mut [u16],
 ) -> FrontAnswer
-    requires { ⌜ Laid (now file) (now firsts) (now seconds) (now heads) (now tails) limit nodes width k × Holding capacity k width (now costs) (now witnesses) ⌝ }
+    requires { ⌜ Laid (now file) (now chart) k × Holding capacity k (widthIn (now chart)) (now costs) (now witnesses) ⌝ }
     ensures { λ r. ⌜ Filled (now (file .entry)) capacity (now (costs .entry)) (now (witnesses .entry)) (frontedOf r) (now (costs .exit)) (now (witnesses .exit)) ⌝ }
 {
-    let neighbours = spread::neighbours(firsts, seconds);
-    let claims = spread::neighbours(heads, tails);
+    let ends = ends_of(chart);
+    let firsts = ends.firsts;
+    let seconds = ends.seconds;
+    let heads = ends.heads;
+    let m = chart::row_count(chart);
     let prices = costing::costs_of(file);
     let leads = costing::leads_of(file);
     rows(
-        &neighbours,
-        firsts,
-        seconds,
-        &claims,
-        heads,
-        tails,
-        limit,
-        1,
-        nodes,
-        width,
+        chart,
+        &firsts[..m],
+        &seconds[..m],
+        &heads[..m],
         costing::kinds_of(file),
         k,
         &prices,
         &leads,
-        costing::musts_of(heads),
-        costing::free_of(firsts, seconds, heads, limit),
         capacity,
         costs,
         witnesses,
@@ -301,40 +282,19 @@ fn fill(
 pub fn front(file: &[u8], costs: &mut [u32], witnesses: &mut [u16]) -> FrontAnswer
     ensures { λ r. ⌜ record { outcome = frontedOf r; buffers = record { costs = now (costs .exit); witnesses = now (witnesses .exit) } } ≡ frontCall (now (file .entry)) (now (costs .entry)) (now (witnesses .entry)) ⌝ }
 {
-    let opened = listed::listed(file);
+    let mut chart = [0u64; chart::LENGTH];
+    let opened = listed::listed(file, &mut chart);
     let Opened::Header(header) = opened else {
         return fronted::refused(opened);
     };
-    let n = header.n;
     let k = header.k as usize;
     if costs.len() < k {
         return FrontAnswer::Refused(11);
     }
-    let width = n as usize - 1;
+    let width = header.n as usize - 1;
     if witnesses.len() < width {
         return FrontAnswer::Refused(11);
     }
     let capacity = copies::smaller(costs.len() / k, witnesses.len() / width);
-    let m = header.m as usize;
-    let open = ends::ends_of(file, Rows::Unbarred);
-    let firsts = open.firsts;
-    let seconds = open.seconds;
-    let must = ends::ends_of(file, Rows::Must);
-    let heads = must.firsts;
-    let tails = must.seconds;
-    let nodes = ends::nodes_word(n);
-    fill(
-        file,
-        &firsts[..m],
-        &seconds[..m],
-        &heads[..m],
-        &tails[..m],
-        n,
-        nodes,
-        width,
-        header.k,
-        capacity,
-        costs,
-        witnesses,
-    )
+    fill(file, &chart, header.k, capacity, costs, witnesses)
 }

@@ -1,3 +1,3 @@
-pub mod Ready
+pub mod Members
 pub mod Spreads
 pub mod Sweeps

@@ -1,190 +1,28 @@
--- What is computed with words is what the graph says: neighbours, the nodes that legal steps enter (`seeds-legal`), what a state
+-- What is computed with words is what the graph says: the nodes that legal steps enter (`seeds-legal`), what a state
 -- reaches (`spread-reaches`), and whether it is live (`spread-live`).
 use mathlib.Core.Path.{_∙_, _≡_, ap, refl, subst, sym}
 use mathlib.Core.Logic.{_↔_, _⊎_, inl, inr, ⊎-elim}
-use mathlib.Core.List.{List, Memᴰ·cast as mem-cast}
+use mathlib.Core.List.{List}
 use Prim.Native.Nat.{_+_, _-_, _<_, _^_, _≤_, suc, zero, ℕ}
 use native.Mathlib.Decide.{ℕ-discrete}
 use native.Mathlib.Omega.{arith}
 use lib.Dec.{T, eqb, eqb→eq, ltb, ltb→lt, lt→ltb}
-use lib.ListN.{getD, length, length-set}
-use lib.Seq.{getD-set-other, getD-set-same}
+use lib.ListN.{getD, length}
 use borrow.Author.Tests.{lt-ltb}
-use Rattle.lists.specs.Lists.{range}
 use Rattle.lists.proofs.Ascending.{getD-mem}
 use Rattle.lists.proofs.Members.{_∈_, range-in, range-out}
-use Rattle.lists.proofs.Ranges.{getD-map-range}
 use Rattle.lists.proofs.Tests.{T-both, T-either, T-same, T-true, eq→eqb, pick-elim}
-use Rattle.graph.specs.Graph.{Graph, firstEnd, rowNumbers, secondEnd}
+use Rattle.graph.specs.Graph.{Graph, rowNumbers}
 use Rattle.graph.specs.Paths.{Key}
-use Rattle.graph.proofs.Growth.{Joins, Legal, Live, Reaches, State, back, direct, forth, onward}
+use Rattle.graph.proofs.Growth.{Joins, Legal, Live, Reaches, State, direct, onward}
 use Rattle.graph.proofs.Keys.{Lex, further, level}
-use Rattle.graph.proofs.Minimal.{WellFormed}
 use Rattle.graph.proofs.Places.{node-at, place-at, place-below}
 use Rattle.graph.proofs.Walk.{reached-in}
-use Rattle.words.specs.Words.{bit, has}
-use Rattle.words.proofs.Words.{bit-in, bit-out, has-above, has-and, has-or, has-zero, words-below, words-same}
-use Rattle.spread.specs.Spread.{bring, joinedTo, neighboursBy, neighboursOf, openAt, openFrom, seedsOf, spreadOf, spreadUpTo, sweepFrom, sweepOf, withRow}
-use Rattle.spread.proofs.Ready.{Charted, Ready}
+use Rattle.words.specs.Words.{has}
+use Rattle.words.proofs.Words.{has-above, has-and, has-or, has-zero, words-below, words-same}
+use Rattle.spread.specs.Spread.{bring, openAt, openFrom, seedsOf, spreadOf, spreadUpTo, sweepFrom, sweepOf}
+use Rattle.chart.proofs.Charts.{Charted, Ready}
 use Rattle.spread.proofs.Sweeps.{spread-fixed}
-
--- Neighbours
-
--- Each step keeps the words' number
-joined-length : (words : List ℕ) (x y : ℕ) → length words ≡ 33 → length (joinedTo words x y) ≡ 33
-unfolding joinedTo
-joined-length words x y e = pick-elim (λ (l : List ℕ). length l ≡ 33) (ltb x 33) (λ t. length-set words x _ ∙ e) (λ n. e)
-
--- the word of u
-module _ (u v : ℕ) (low : u < 33) where
-  joined-out : (words : List ℕ) (x y : ℕ) → length words ≡ 33
-      → T (has (getD (joinedTo words x y) u 0) v) → T (has (getD words u 0) v) ⊎ ((x ≡ u) × T (has (bit y) v))
-  unfolding joinedTo
-  joined-out words x y whole = pick-elim (λ (l : List ℕ). T (has (getD l u 0) v) → T (has (getD words u 0) v) ⊎ ((x ≡ u) × T (has (bit y) v))) (ltb x 33)
-      (λ _ t. elim (ℕ-discrete u x) [
-        | yes e ↦ ⊎-elim (λ s. inl (rw e s)) (λ s. inr (sym e, s)) (simp (has-or, T-either) at (rw (e, getD-set-same words x _ 0 (omega arith)) at t))
-        | no d ↦ inl (rw (getD-set-other words x u _ 0 d) at t)
-      ])
-      (λ n t. inl t)
-
-  joined-old : (words : List ℕ) (x y : ℕ) → length words ≡ 33 → T (has (getD words u 0) v) → T (has (getD (joinedTo words x y) u 0) v)
-  unfolding joinedTo
-  joined-old words x y whole t = pick-elim (λ (l : List ℕ). T (has (getD l u 0) v)) (ltb x 33)
-      (λ _. elim (ℕ-discrete u x) [
-        | yes e ↦ rw (e, getD-set-same words x _ 0 (omega arith)) (simp (has-or, T-either) (inl (rw e at t)))
-        | no d ↦ rw (getD-set-other words x u _ 0 d) t
-      ])
-      (λ n. t)
-
-  joined-new : (words : List ℕ) (x y : ℕ) → length words ≡ 33 → x ≡ u → T (has (bit y) v) → T (has (getD (joinedTo words x y) u 0) v)
-  unfolding joinedTo
-  joined-new words x y whole e t = rw (e, lt-ltb u 33 low, getD-set-same words u _ 0 (omega arith)) (simp (has-or, T-either) (inr t))
-
--- A row with the ends a and b
-
-module _ (words : List ℕ) (a b : ℕ) (whole : length words ≡ 33) where
-  abbrev one : List ℕ
-  one = joinedTo words a b
-
-  abbrev two : List ℕ
-  two = joinedTo one b a
-
-  abbrev three : List ℕ
-  three = joinedTo two 0 a
-
-  whole-1 : length one ≡ 33
-  whole-1 = joined-length words a b whole
-
-  whole-2 : length two ≡ 33
-  whole-2 = joined-length one b a whole-1
-
-  whole-3 : length three ≡ 33
-  whole-3 = joined-length two 0 a whole-2
-
-  row-length : length (withRow words a b) ≡ 33
-  unfolding withRow
-  row-length = joined-length three 0 b whole-3
-
-  module _ (u v : ℕ) (low : u < 33) where
-    row-out : ¬ (u ≡ 0) → T (has (getD (withRow words a b) u 0) v) → T (has (getD words u 0) v) ⊎ (((a ≡ u) × (b ≡ v)) ⊎ ((a ≡ v) × (b ≡ u)))
-    unfolding withRow
-    row-out some t = ⊎-elim (λ t. of-two (⊎-elim (λ t. t) (λ (e, s). absurd (some (sym e))) (joined-out u v low two 0 a whole-2 t)))
-        (λ (e, s). absurd (some (sym e))) (joined-out u v low three 0 b whole-3 t)
-      where
-        of-two : T (has (getD two u 0) v) → T (has (getD words u 0) v) ⊎ (((a ≡ u) × (b ≡ v)) ⊎ ((a ≡ v) × (b ≡ u)))
-        of-two t = ⊎-elim
-            (λ t. ⊎-elim (λ t. inl t) (λ (e, s). inr (inl (e, bit-out b v s))) (joined-out u v low words a b whole t))
-            (λ (e, s). inr (inr (bit-out a v s, e))) (joined-out u v low one b a whole-1 t)
-
-    from-two : T (has (getD two u 0) v) → T (has (getD (withRow words a b) u 0) v)
-    unfolding withRow
-    from-two t = joined-old u v low three 0 b whole-3 (joined-old u v low two 0 a whole-2 t)
-
-    from-one : T (has (getD one u 0) v) → T (has (getD (withRow words a b) u 0) v)
-    from-one t = from-two (joined-old u v low one b a whole-1 t)
-
-    row-old : T (has (getD words u 0) v) → T (has (getD (withRow words a b) u 0) v)
-    row-old t = from-one (joined-old u v low words a b whole t)
-
-    row-forth : a ≡ u → T (has (bit b) v) → T (has (getD (withRow words a b) u 0) v)
-    row-forth e t = from-one (joined-new u v low words a b whole e t)
-
-    row-back : b ≡ u → T (has (bit a) v) → T (has (getD (withRow words a b) u 0) v)
-    row-back e t = from-two (joined-new u v low one b a whole-1 e t)
-
-  -- place 0 has both ends
-  row-first : (v : ℕ) → T (has (bit a) v) → T (has (getD (withRow words a b) 0 0) v)
-  unfolding withRow
-  row-first v t = joined-old 0 v (omega arith) three 0 b whole-3 (joined-new 0 v (omega arith) two 0 a whole-2 refl t)
-
-  row-second : (v : ℕ) → T (has (bit b) v) → T (has (getD (withRow words a b) 0 0) v)
-  unfolding withRow
-  row-second v t = joined-new 0 v (omega arith) three 0 b whole-3 refl t
-
-by-length : (firsts seconds : List ℕ) (n : ℕ) → length (neighboursBy firsts seconds n) ≡ 33
-unfolding neighboursBy range
-by-length firsts seconds zero = refl
-by-length firsts seconds (suc n) = row-length (neighboursBy firsts seconds n) (getD firsts n 0) (getD seconds n 0) (by-length firsts seconds n)
-
--- The words by a graph's rows
-
-module _ (g : Graph) (v : ℕ) (narrow : v < 64) where
-  abbrev by : ℕ → List ℕ
-  by n = neighboursBy (g .firstEnds) (g .secondEnds) n
-
-  whole : (n : ℕ) → length (by n) ≡ 33
-  whole n = by-length (g .firstEnds) (g .secondEnds) n
-
-  module _ (u : ℕ) (low : u < 33) where
-    word-out : ¬ (u ≡ 0) → (n : ℕ) → T (has (getD (neighboursBy (g .firstEnds) (g .secondEnds) n) u 0) v) → (r : ℕ) × (r < n) × Joins g r u v
-    unfolding neighboursBy
-    word-out some zero t = absurd (rw (getD-map-range {A = ℕ} (λ u. 0) 33 u 0 low, has-zero) at t)
-    word-out some (suc n) t = ⊎-elim
-        (λ t. let (r, h, j) = word-out some n t in (r, omega arith, j))
-        (λ j. (n, omega arith, ⊎-elim (λ (a, b). forth a b) (λ (a, b). back a b) j))
-        (row-out (by n) (firstEnd g n) (secondEnd g n) (whole n) u v low some t)
-
-    word-in : (n r : ℕ) → r < n → Joins g r u v → T (has (getD (neighboursBy (g .firstEnds) (g .secondEnds) n) u 0) v)
-    unfolding neighboursBy
-    word-in zero r h j = absurd (omega arith)
-    word-in (suc n) r h j = elim (ℕ-discrete r n) [
-      | yes e ↦ new (rw e at j)
-      | no d ↦ row-old (by n) (firstEnd g n) (secondEnd g n) (whole n) u v low (word-in n r (omega arith) j)
-    ]
-      where
-        new : Joins g n u v → T (has (getD (withRow (by n) (firstEnd g n) (secondEnd g n)) u 0) v)
-        new (forth a b) = row-forth (by n) (firstEnd g n) (secondEnd g n) (whole n) u v low a (bit-in (secondEnd g n) v narrow b)
-        new (back a b) = row-back (by n) (firstEnd g n) (secondEnd g n) (whole n) u v low b (bit-in (firstEnd g n) v narrow a)
-
-  -- the word at place 0 has every node to which a row leads
-  end-in : (u n r : ℕ) → r < n → Joins g r u v → T (has (getD (neighboursBy (g .firstEnds) (g .secondEnds) n) 0 0) v)
-  unfolding neighboursBy
-  end-in u zero r h j = absurd (omega arith)
-  end-in u (suc n) r h j = elim (ℕ-discrete r n) [
-    | yes e ↦ new (rw e at j)
-    | no d ↦ row-old (by n) (firstEnd g n) (secondEnd g n) (whole n) 0 v (omega arith) (end-in u n r (omega arith) j)
-  ]
-    where
-      new : Joins g n u v → T (has (getD (withRow (by n) (firstEnd g n) (secondEnd g n)) 0 0) v)
-      new (forth a b) = row-second (by n) (firstEnd g n) (secondEnd g n) (whole n) v (bit-in (secondEnd g n) v narrow b)
-      new (back a b) = row-first (by n) (firstEnd g n) (secondEnd g n) (whole n) v (bit-in (firstEnd g n) v narrow a)
-
--- the words that `neighbours` makes
-pub neighbours-charted : (g : Graph) (limit : ℕ) → WellFormed g → ((v : ℕ) → v ∈ g .nodes → v ≤ limit) → limit ≤ 32
-    → Charted g (neighboursOf (g .firstEnds) (g .secondEnds)) limit
-unfolding neighboursOf
-neighbours-charted g limit wf low small = record {
-  formed = wf;
-  low = low;
-  small = omega arith;
-  joined = λ u v m n.
-      let room : u < 33 = omega (arith, low u m) in
-      let narrow : v < 64 = omega (arith, low v n) in (
-        λ t. word-out g v narrow u room (λ e. wf .noZero (mem-cast (sym e) m)) (length (g .firstEnds)) t,
-        λ (r, h, j). word-in g v narrow u room (length (g .firstEnds)) r h j,
-      );
-  ends = λ u v n (r, h, j). end-in g v (omega (arith, low v n)) u (length (g .firstEnds)) r h j;
-}
 
 -- The spread as a set. `nb` and `fresh` are any words, below 2 ^ 64 where it is said.
 

@@ -1,33 +1,11 @@
--- The computation of what a growing path still reaches, with sets as words (crate words). `firsts` and `seconds` are the ends of the rows.
-use mathlib.Core.List.{List, map}
+-- The computation of what a growing path still reaches, with sets as words (crate words); `nb` are the neighbours of each node.
+use mathlib.Core.List.{List}
 use Prim.Native.Nat.{_-_, _^_, suc, zero, ℕ}
 use lib.Bits.{bitAnd, bitOr}
 use lib.Dec.{eqb, ltb}
-use lib.ListN.{getD, length, set}
-use Rattle.lists.specs.Lists.{pick, range}
-use Rattle.words.specs.Words.{above, bit, has}
-
--- Neighbours
-
--- v becomes a neighbour of u, if u is at most 32
-unfoldable pub joinedTo : List ℕ → ℕ → ℕ → List ℕ
-joinedTo words u v = pick (ltb u 33) (set words u (bitOr (getD words u 0) (bit v))) words
-
--- a row with the ends a and b makes each a neighbour of the other; place 0, which is no node, has both
-unfoldable pub withRow : List ℕ → ℕ → ℕ → List ℕ
-unfolding joinedTo
-withRow words a b = joinedTo (joinedTo (joinedTo (joinedTo words a b) b a) 0 a) 0 b
-
--- by the first r rows
-unfoldable pub neighboursBy : List ℕ → List ℕ → ℕ → List ℕ
-unfolding withRow range
-neighboursBy firsts seconds zero = map (λ u. 0) (range 0 33)
-neighboursBy firsts seconds (suc r) = withRow (neighboursBy firsts seconds r) (getD firsts r 0) (getD seconds r 0)
-
--- the neighbours of each node from 1 to 32, and at place 0 all ends of rows
-unfoldable pub neighboursOf : List ℕ → List ℕ → List ℕ
-unfolding neighboursBy
-neighboursOf firsts seconds = neighboursBy firsts seconds (length firsts)
+use lib.ListN.{getD, length}
+use Rattle.lists.specs.Lists.{pick}
+use Rattle.words.specs.Words.{above, has}
 
 -- The nodes that a legal step enters: from the node at the bound's place those above the bound's node, from later places all.
 
@@ -77,3 +55,8 @@ spreadUpTo (suc k) nb limit fresh word =
 unfoldable pub spreadOf : List ℕ → ℕ → ℕ → ℕ → ℕ
 unfolding spreadUpTo
 spreadOf nb limit fresh word = spreadUpTo (2 ^ 64 - word) nb limit fresh word
+
+-- what a member brings in, one by one: a number from 1 to the limit its open neighbours, any other nothing
+unfoldable pub broughtBy : List ℕ → ℕ → ℕ → ℕ → ℕ
+unfolding openAt
+broughtBy nb limit fresh u = pick (eqb u 0) 0 (pick (ltb limit u) 0 (openAt nb fresh u))

@@ -1,18 +1,16 @@
 -- The table of entries: the place at which a node is first entered, plus 1, and 0 where it is not entered. Assumes nothing.
 use mathlib.Core.Path.{_∙_, _≡_, ap, refl, sym}
-use mathlib.Core.Logic.{⊎-elim}
 use mathlib.Core.List.{List, [], _++_, _∷_, map-append, List·Memᴰ·head as here, List·Memᴰ·not-nil as mem-nil, List·Memᴰ·tail as there}
-use Prim.Native.Nat.{_+_, _-_, _<_, _≤_, min, suc, zero, ℕ}
+use Prim.Native.Nat.{_+_, _-_, _<_, _≤_, suc, ℕ}
 use native.Mathlib.Decide.{ℕ-discrete}
 use native.Mathlib.Numerals.{add-one}
 use native.Mathlib.Omega.{arith}
-use lib.Dec.{ltb, ltb→lt}
 use lib.ListN.{drop, drop-of-length-le, getD, getD-replicate, length, length-map, length-replicate, length-set, replicate, set}
 use lib.Seq.{drop-cons, getD-set-other, getD-set-same}
 use borrow.Author.Tests.{le-ltb, lt-ltb}
 use Rattle.lists.proofs.Distinct.{mem?}
-use Rattle.lists.proofs.Members.{_∈_, length-snoc, member-in, member-out, not-snoc, snoc-new, snoc-old}
-use Rattle.lists.proofs.Tests.{T-false, T-true, decide, not-ltb→le}
+use Rattle.lists.proofs.Members.{_∈_, member-in, member-out, not-snoc, snoc-new, snoc-old}
+use Rattle.lists.proofs.Tests.{T-false, T-true}
 use Rattle.lists.specs.Lists.{member, pick}
 use Rattle.graph.proofs.Places.{place-here, place-new, place-old, place-there}
 use Rattle.graph.specs.Paths.{Key, placeOf}
@@ -38,11 +36,11 @@ place-out [] v f = refl
 place-out (u ∷ l) v f = place-there u v l (λ e. f (here (sym e))) ∙ ap suc (place-out l v (λ m. f (there m)))
 
 -- one node more: its entry, and those of the others
-entry-new : (l : List ℕ) (x i : ℕ) → length l ≡ i + 1 → i < 31 → entryOf (l ++ (x ∷ [])) x ≡ entryAfter (entryOf l x) i
+entry-new : (l : List ℕ) (x i : ℕ) → length l ≡ i + 1 → entryOf (l ++ (x ∷ [])) x ≡ entryAfter (entryOf l x) i
 unfolding entryAfter
-entry-new l x i e h = elim (mem? ℕ-discrete x l) [
+entry-new l x i e = elim (mem? ℕ-discrete x l) [
   | yes m ↦ rw (entry-in (l ++ (x ∷ [])) x (snoc-old x m), entry-in l x m, place-old l x m, lt-ltb 0 (suc (placeOf l x)) (omega arith))
-  | no f ↦ rw (entry-in (l ++ (x ∷ [])) x (snoc-new l x), entry-out l x f, place-new l x f, lt-ltb i 31 h) (omega arith)
+  | no f ↦ rw (entry-in (l ++ (x ∷ [])) x (snoc-new l x), entry-out l x f, place-new l x f) (omega arith)
 ]
 
 entry-other : (l : List ℕ) (x v : ℕ) → ¬ (v ≡ x) → entryOf (l ++ (x ∷ [])) v ≡ entryOf l v
@@ -50,11 +48,6 @@ entry-other l x v d = elim (mem? ℕ-discrete v l) [
   | yes m ↦ rw (entry-in (l ++ (x ∷ [])) v (snoc-old x m), entry-in l v m, place-old l x m)
   | no f ↦ rw (entry-out (l ++ (x ∷ [])) v (not-snoc l f d), entry-out l v f)
 ]
-
-entry-full : (e i : ℕ) → 31 ≤ i → entryAfter e i ≡ e
-unfolding entryAfter
-entry-full zero i h = rw (le-ltb i 31 h)
-entry-full (suc e) i h = rw (lt-ltb 0 (suc e) (omega arith))
 
 -- The table of the entries of all nodes
 
@@ -73,48 +66,28 @@ table-start n plant e h v b = elim (ℕ-discrete v plant) [
 pub table-length : (n plant : ℕ) → length (set (replicate {A = ℕ} n 0) plant 1) ≡ n
 table-length n plant = length-set (replicate {A = ℕ} n 0) plant 1 ∙ length-replicate {A = ℕ} n 0
 
-module _ (plant i : ℕ) (keys : List Key) (k : Key) (size : length keys ≡ min i 31) where
-  entered-room : i < 31 → enteredBy plant (extendedBy keys k) ≡ enteredBy plant keys ++ (k .node ∷ [])
-  unfolding extendedBy
-  entered-room h = rw (lt-ltb (length keys) 31 (omega arith), map-append (λ (k : Key). k .node) keys (k ∷ []))
+-- one step more, where there is room
+pub extended-room : (keys : List Key) (k : Key) → length keys < 31 → extendedBy keys k ≡ keys ++ (k ∷ [])
+unfolding extendedBy
+extended-room keys k h = rw (lt-ltb (length keys) 31 h)
 
-  entered-full : 31 ≤ i → enteredBy plant (extendedBy keys k) ≡ enteredBy plant keys
-  unfolding extendedBy
-  entered-full h = rw (le-ltb (length keys) 31 (omega arith))
-
-  pub extended-size : length (extendedBy keys k) ≡ min (i + 1) 31
-  unfolding extendedBy
-  extended-size = ⊎-elim
-      (λ t. let h = ltb→lt i 31 t in rw (lt-ltb (length keys) 31 (omega arith)) (omega (arith, length-snoc keys k)))
-      (λ f. let h = not-ltb→le i 31 f in rw (le-ltb (length keys) 31 (omega arith)) (omega arith))
-      (decide (ltb i 31))
-
-  entered-size : length (enteredBy plant keys) ≡ min i 31 + 1
-  entered-size = omega (arith, length-map keys (λ (k : Key). k .node))
-
-  entry-is : entryOf (enteredBy plant (extendedBy keys k)) (k .node) ≡ entryAfter (entryOf (enteredBy plant keys) (k .node)) i
-  entry-is = ⊎-elim
-      (λ t. let h = ltb→lt i 31 t in rw (entered-room h) (entry-new (enteredBy plant keys) (k .node) i (omega (arith, entered-size)) h))
-      (λ f. let h = not-ltb→le i 31 f in rw (entered-full h, entry-full (entryOf (enteredBy plant keys) (k .node)) i h))
-      (decide (ltb i 31))
-
-  entry-stays : (v : ℕ) → ¬ (v ≡ k .node) → entryOf (enteredBy plant (extendedBy keys k)) v ≡ entryOf (enteredBy plant keys) v
-  entry-stays v d = ⊎-elim
-      (λ t. rw (entered-room (ltb→lt i 31 t)) (entry-other (enteredBy plant keys) (k .node) v d))
-      (λ f. rw (entered-full (not-ltb→le i 31 f)))
-      (decide (ltb i 31))
+module _ (plant i : ℕ) (keys : List Key) (k : Key) (size : length keys ≡ i) (room : i < 31) where
+  entered-next : enteredBy plant (extendedBy keys k) ≡ enteredBy plant keys ++ (k .node ∷ [])
+  entered-next = rw (extended-room keys k (omega arith), map-append (λ (k : Key). k .node) keys (k ∷ []))
 
   pub table-next : (entries : List ℕ) (x e : ℕ) → x ≡ k .node → e ≡ entryAfter (getD entries x 0) i → length entries ≡ 256 → x < 256
       → Table entries (enteredBy plant keys) → Table (set entries x e) (enteredBy plant (extendedBy keys k))
-  table-next entries x e a b c h at v below = elim (ℕ-discrete v x) [
-    | yes d ↦ rw d (getD-set-same entries x e 0 (rw c h) ∙ (b ∙ (rw (at x h, a) (sym entry-is))))
-    | no d ↦ getD-set-other entries x v e 0 d ∙ (at v below ∙ sym (entry-stays v (λ q. d (q ∙ sym a))))
-  ]
+  table-next entries x e a b c h at v below = rw entered-next (elim (ℕ-discrete v x) [
+    | yes d ↦
+        let size : length (enteredBy plant keys) ≡ i + 1 = omega (arith, length-map keys (λ (k : Key). k .node)) in
+        rw d (getD-set-same entries x e 0 (rw c h) ∙ (b ∙ (rw (at x h, a) (sym (entry-new (enteredBy plant keys) (k .node) i size)))))
+    | no d ↦ getD-set-other entries x v e 0 d ∙ (at v below ∙ sym (entry-other (enteredBy plant keys) (k .node) v (λ q. d (q ∙ sym a))))
+  ])
 
 -- The step of a row, from the entries of its ends
 
 module _ (firsts seconds entered : List ℕ) (r i : ℕ) where
-  step-by : (a b : ℕ) → length entered ≡ min i 31 + 1
+  step-by : (a b : ℕ) → length entered ≡ i + 1
       → _≡_ {A = Key}
       (record { place = placeBy (entryOf entered a) (entryOf entered b) i; node = endBy (entryOf entered a) a b; row = r })
       (pick (member a entered) (record { place = placeOf entered a; node = b; row = r }) (record { place = placeOf entered b; node = a; row = r }))
@@ -132,7 +105,7 @@ module _ (firsts seconds entered : List ℕ) (r i : ℕ) where
   ]
 
   pub step-is : (a b first second : ℕ) → a ≡ getD firsts r 0 → b ≡ getD seconds r 0 → first ≡ entryOf entered a → second ≡ entryOf entered b
-      → length entered ≡ min i 31 + 1
+      → length entered ≡ i + 1
       → record { place = placeBy first second i; node = endBy first a b; row = r } ≡ keyBy firsts seconds entered r
   unfolding keyBy
   step-is a b first second p q f s size = rw (f, s, ← p, ← q) (step-by a b size)
@@ -140,12 +113,18 @@ module _ (firsts seconds entered : List ℕ) (r i : ℕ) where
 -- The path of rows, one step after the other
 
 module _ (firsts seconds : List ℕ) (plant : ℕ) (rows : List ℕ) where
-  pub trace-more : (keys : List Key) (i : ℕ) → i < length rows
-      → traceFrom firsts seconds plant keys (drop i rows)
-      ≡ traceFrom firsts seconds plant (extendedBy keys (keyBy firsts seconds (enteredBy plant keys) (getD rows i 0))) (drop (i + 1) rows)
+  -- a whole path, by one row more
+  pub trace-next : {whole keys′ : List Key} {k : Key} (keys : List Key) (i : ℕ) → i < length rows → whole ≡ traceFrom firsts seconds plant keys (drop i rows)
+      → keys′ ≡ extendedBy keys k → k ≡ keyBy firsts seconds (enteredBy plant keys) (getD rows i 0) → whole ≡ traceFrom firsts seconds plant keys′ (drop (i + 1) rows)
   unfolding traceFrom
-  trace-more keys i h = rw (drop-cons rows i 0 h, add-one)
+  trace-next keys i h e p q = e ∙ (rw (drop-cons rows i 0 h, add-one, p, q))
 
   pub trace-over : (keys : List Key) (i : ℕ) → length rows ≤ i → traceFrom firsts seconds plant keys (drop i rows) ≡ keys
   unfolding traceFrom
   trace-over keys i h = rw (drop-of-length-le rows h)
+
+-- no step is made behind 31
+pub trace-full : (firsts seconds : List ℕ) (plant : ℕ) (keys : List Key) (rows : List ℕ) → 31 ≤ length keys → traceFrom firsts seconds plant keys rows ≡ keys
+unfolding traceFrom extendedBy
+trace-full firsts seconds plant keys [] h = refl
+trace-full firsts seconds plant keys (r ∷ rows) h = rw (le-ltb (length keys) 31 h) (trace-full firsts seconds plant keys rows h)

@@ -8,7 +8,6 @@ ghost use lib.ListN.{length, replicate, take};
 ghost use Rattle.operations.specs.Operations.{layoutsIn, pageCall};
 ghost use Rattle.page.specs.Answers.{pagedOf};
 ghost use Rattle.treelist.specs.Given.{Given};
-use ends::Rows;
 use fields::Header;
 use fronted::FrontAnswer;
 use libc::STDIN_FILENO;
@@ -81,12 +80,11 @@ fn print_tree(
     out: &mut [u8],
     at: usize,
     file: &[u8],
-    firsts: &[u8],
-    seconds: &[u8],
+    chart: &[u64; chart::LENGTH],
     k: usize,
     rows: &[u16],
 ) -> usize {
-    let path = trace::trace(firsts, seconds, 1, rows);
+    let path = trace::trace(chart, rows);
     let from = room(out, at);
     tree_line(out, from, rows, vector::vector(file, path), k)
 }
@@ -96,17 +94,16 @@ fn print_page(
     out: &mut [u8],
     from: usize,
     file: &[u8],
-    firsts: &[u8],
-    seconds: &[u8],
-    n: u8,
-    k: usize,
+    chart: &[u64; chart::LENGTH],
+    h: Header,
     page: &[u16],
     count: usize,
 ) -> usize {
+    let k = h.k as usize;
     let mut at = from;
     let mut t: usize = 0;
     while t < count {
-        at = print_tree(out, at, file, firsts, seconds, k, pick::pick(n, page, t));
+        at = print_tree(out, at, file, chart, k, pick::pick(h.n, page, t));
         t += 1;
     }
     at
@@ -141,8 +138,7 @@ fn print_list(
     out: &mut [u8],
     from: usize,
     file: &[u8],
-    firsts: &[u8],
-    seconds: &[u8],
+    chart: &[u64; chart::LENGTH],
     h: Header,
     page: &mut [u16],
 ) -> u64
@@ -150,7 +146,6 @@ fn print_list(
     ensures { λ r. ⌜ r ≡ min (length (layoutsIn (now (file .entry)))) (2 ^ 64 - 1) ⌝ }
 {
     let n = h.n;
-    let k = h.k as usize;
     let width = n as usize - 1;
     let mut start = [0u16; 31];
     let mut len: usize = 0;
@@ -161,7 +156,7 @@ fn print_list(
         let PageAnswer::Trees { count, more } = answer else {
             return total;
         };
-        at = print_page(out, at, file, firsts, seconds, n, k, page, count);
+        at = print_page(out, at, file, chart, h, page, count);
         total = held(total, count as u64);
         if !more {
             write(out, at);
@@ -284,13 +279,12 @@ fn print_trees(out: &mut [u8], at: usize, file: &[u8], h: Header) -> u64
     requires { ⌜ Given (now file) h ⌝ }
     ensures { λ r. ⌜ r ≡ min (length (layoutsIn (now (file .entry)))) (2 ^ 64 - 1) ⌝ }
 {
-    let all = ends::ends_of(file, Rows::All);
-    let firsts = all.firsts;
-    let seconds = all.seconds;
+    let mut chart = [0u64; chart::LENGTH];
+    chart::of_file(file, &mut chart);
     let mut trees = page_space();
     let page: &mut [u16] = &mut trees;
     let places = 64 * (h.n as usize - 1);
-    print_list(out, at, file, &firsts, &seconds, h, &mut page[..places])
+    print_list(out, at, file, &chart, h, &mut page[..places])
 }
 
 // The printout of a network that has a tree.

@@ -1,3 +1,4 @@
+pub mod Files
 pub mod Laws
 pub mod Only
 pub mod Trees

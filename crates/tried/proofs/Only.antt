@@ -3,7 +3,7 @@
 use mathlib.Core.Path.{_∙_, _≡_, ap, refl, sym}
 use mathlib.Core.Logic.{_↔_, _⊎_, inl, inr, ⊎-elim}
 use mathlib.Core.Option.{Option, some}
-use mathlib.Core.List.{List, [], _∷_, Memᴰ·cast as mem-cast}
+use mathlib.Core.List.{List, [], _∷_, map, Memᴰ·cast as mem-cast}
 use Prim.Native.Nat.{_<_, suc, ℕ}
 use native.Mathlib.Decide.{decLt, ℕ-discrete}
 use native.Mathlib.Omega.{arith}
@@ -18,42 +18,45 @@ use Rattle.graph.specs.Graph.{Graph, isTree, rowNumbers}
 use Rattle.graph.specs.Paths.{Key, andThen, pathOf, steps}
 use Rattle.graph.proofs.Growth.{Joins, Legal, State, after, back, forth, necessary, rowsOf, rowsOf-length, some-step, start}
 use Rattle.graph.proofs.Least.{Sound}
+use Rattle.graph.proofs.Masked.{endsAs}
 use Rattle.graph.proofs.Minimal.{WellFormed, rowNumbers-in, sound-start}
 use Rattle.graph.proofs.PathOf.{pathOf-greedy}
 use Rattle.graph.proofs.Steps.{completion-steps}
 use Rattle.graph.proofs.Tree.{live-tree, tree-in, tree-live, tree-out}
 use Rattle.graph.proofs.Unique.{rows-distinct, rows-usable}
 use Rattle.graph.proofs.Walk.{Leasts, least-all, leasts-legal, leasts-live, sound-walk, stateAfter, stateAfter-length}
-use Rattle.tried.specs.Only.{only, onlyEnds}
 
--- The ends of drawn rows
+-- The ends of drawn rows: those of every other row are taken out, set to 0, which is no node
+
+unfoldable pub onlyEnds : List ℕ → List ℕ → List ℕ
+onlyEnds rows ends = map (λ r. pick (member r rows) (getD ends r 0) 0) (range 0 (length ends))
+
+abbrev pub only : Graph → List ℕ → Graph
+only g rows = endsAs g (onlyEnds rows (g .firstEnds)) (onlyEnds rows (g .secondEnds))
 
 module _ (rows ends : List ℕ) where
-  pub only-length : length (onlyEnds rows ends) ≡ length ends
+  pub ends-length : length (onlyEnds rows ends) ≡ length ends
   unfolding onlyEnds
-  only-length = length-map (range 0 (length ends)) _ ∙ range-length 0 (length ends)
+  ends-length = length-map (range 0 (length ends)) _ ∙ range-length 0 (length ends)
 
   -- at every place, past the end too
-  pub only-at : (r : ℕ) → getD (onlyEnds rows ends) r 0 ≡ pick (member r rows) (getD ends r 0) 0
+  pub ends-at : (r : ℕ) → getD (onlyEnds rows ends) r 0 ≡ pick (member r rows) (getD ends r 0) 0
   unfolding onlyEnds
-  only-at r = elim (decLt r (length ends)) [
+  ends-at r = elim (decLt r (length ends)) [
     | yes h ↦ getD-map-range (λ r. pick (member r rows) (getD ends r 0) 0) (length ends) r 0 h
     | no n ↦ getD-map-past _ (length ends) r 0 (omega arith)
         ∙ sym (pick-elim (λ (x : ℕ). x ≡ 0) (member r rows) (λ t. List·getD-eq-default ends 0 {n = r} (omega arith)) (λ t. refl))
   ]
 
   only-in : (r : ℕ) → r ∈ rows → getD (onlyEnds rows ends) r 0 ≡ getD ends r 0
-  only-in r m = only-at r ∙ pick-true (member r rows) _ _ (member-in m)
+  only-in r m = ends-at r ∙ pick-true (member r rows) _ _ (member-in m)
 
   only-out : (r : ℕ) → (r ∈ rows) ⊎ (getD (onlyEnds rows ends) r 0 ≡ 0)
-  only-out r = rw (only-at r) (pick-elim (λ (x : ℕ). (r ∈ rows) ⊎ (x ≡ 0)) (member r rows) (λ t. inl (member-out r rows t)) (λ n. inr refl))
+  only-out r = rw (ends-at r) (pick-elim (λ (x : ℕ). (r ∈ rows) ⊎ (x ≡ 0)) (member r rows) (λ t. inl (member-out r rows t)) (λ n. inr refl))
 
 -- Steps
 
 module _ (g : Graph) (wf : WellFormed g) (rs : List ℕ) where
-  pub only-formed : WellFormed (only g rs)
-  only-formed = record { once = wf .once; plant = wf .plant; noZero = wf .noZero }
-
   joins-in : {r u v : ℕ} → r ∈ rs → Joins g r u v → Joins (only g rs) r u v
   joins-in {r} m (forth a b) = forth (only-in rs (g .firstEnds) r m ∙ a) (only-in rs (g .secondEnds) r m ∙ b)
   joins-in {r} m (back a b) = back (only-in rs (g .firstEnds) r m ∙ a) (only-in rs (g .secondEnds) r m ∙ b)
@@ -95,7 +98,7 @@ module _ (g : Graph) (wf : WellFormed g) (rs : List ℕ) where
           fresh = h .step .fresh;
           stands = h .step .stands;
         };
-        usable = rowNumbers-in (only g rs) (k .row) (rw (only-length rs (g .firstEnds)) (known (k .row) (h .usable)));
+        usable = rowNumbers-in (only g rs) (k .row) (rw (ends-length rs (g .firstEnds)) (known (k .row) (h .usable)));
         above = h .above;
       },
     )

@@ -1,17 +1,23 @@
--- The graph of drawn rows: the ends of every other row are taken out, set to 0, which is no node.
-use mathlib.Core.List.{List, map}
+-- The chart of the drawn rows alone, made from a chart c of all rows: `drawn` says of each row whether it is drawn, and every other row is entered as a barred one.
+use mathlib.Core.Bool.{Bool, false}
+use mathlib.Core.List.{List, [], map}
 use Prim.Native.Nat.{ℕ}
-use lib.ListN.{getD, length}
+use lib.ListN.{getD}
 use Rattle.lists.specs.Lists.{member, pick, range}
-use Rattle.graph.specs.Graph.{Graph}
+use Rattle.costs.specs.Network.{Row, barred, noRow, «open»}
+use Rattle.chart.specs.Chart.{begunBy, countIn, enteredDown, limitIn, nodesIn, plantIn, rowsIn, widthIn}
 
-unfoldable pub onlyEnds : List ℕ → List ℕ → List ℕ
-onlyEnds rows ends = map (λ r. pick (member r rows) (getD ends r 0) 0) (range 0 (length ends))
+-- which of the rows that a chart has a place for are drawn
+unfoldable pub marksOf : List ℕ → List Bool
+marksOf rows = map (λ r. member r rows) (range 0 256)
 
-abbrev pub only : Graph → List ℕ → Graph
-only g rows = record {
-  plant = g .plant;
-  nodes = g .nodes;
-  firstEnds = onlyEnds rows (g .firstEnds);
-  secondEnds = onlyEnds rows (g .secondEnds);
-}
+abbrev pub onlyRow : Row → Bool → Row
+onlyRow row drawn = record { firstEnd = row .firstEnd; secondEnd = row .secondEnd; street = 0; state = pick drawn «open» barred; costs = [] }
+
+unfoldable pub onlyRows : List ℕ → List Bool → List Row
+onlyRows c drawn = map (λ r. onlyRow (getD (rowsIn c) r noRow) (getD drawn r false)) (range 0 (countIn c))
+
+-- what is made of a chart d that is empty
+unfoldable pub onlyOn : List ℕ → List Bool → List ℕ → List ℕ
+unfolding onlyRows
+onlyOn c drawn d = enteredDown (onlyRows c drawn) (countIn c) (begunBy d (limitIn c) (plantIn c) (nodesIn c) (widthIn c) (countIn c))

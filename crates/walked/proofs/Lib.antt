@@ -1,4 +1,3 @@
 pub mod Turns
 pub mod Tables
 pub mod Vectors
-pub mod Given

@@ -2,23 +2,24 @@
 -- bounds, and the members as a list (`ones-members`, `word-sum`). Last, what the code's shifts compute.
 use mathlib.Core.Path.{_∙_, _≡_, ap, ap₂, fun-ext, refl, subst, sym}
 use mathlib.Core.Bool.{Bool, and-false, and-true, or-assoc as either-assoc, false, not, true}
+use mathlib.Core.Logic.{_↔_, _⊎_, inl, inr, ⊎-elim}
 use mathlib.Core.List.{List, [], _∷_, map}
 use Prim.Native.Nat.{_%_, _*_, _+_, _-_, _/_, _<_, _^_, _≤_, suc, zero, ℕ}
-use native.Mathlib.Decide.{decLt}
-use native.Mathlib.Nat.{div-eq-of-lt, div-mul-le-self, pow-suc, zero-div}
+use native.Mathlib.Decide.{decLt, ℕ-discrete}
+use native.Mathlib.Nat.{div-eq-of-lt, div-mul-le-self, mod-eq-of-lt, pow-suc, zero-div}
 use native.Mathlib.Numerals.{add-one}
 use native.Mathlib.Omega.{arith}
 use lib.Arith.{bin-ind}
 use lib.Bits.{and-le-r, and-mod, and-shr, bitAnd, bitOr, bitXor, or-add-and, or-mod, or-shr, shifted-even, shifted-half, xor-mod, xor-shr}
-use lib.Count.{ones, ones-le, ones-step}
-use lib.Dec.{T, eqb, eqb·suc-suc, eqb·suc-zero, eqb·zero-suc, eqb→eq, leb, leb·suc-suc, leb·suc-zero, leb·zero, ltb}
+use lib.Count.{ones, ones-le, ones-step, trailing-le, trailingZeros, under}
+use lib.Dec.{T, eqb, eqb·suc-suc, eqb·suc-zero, eqb·zero-suc, eqb→eq, leb, leb·suc-suc, leb·suc-zero, leb·zero, ltb, ltb→lt}
 use lib.ListN.{length, length-map}
 use lib.Pow.{pow-mono, shl-exact, shr-lt, shr-shr}
 use borrow.Author.Tests.{le-ltb, lt-ltb}
 use Rattle.lists.specs.Lists.{both, either, filterB, keepIf, pick, range, sum}
 use Rattle.lists.proofs.Maps.{map-filter}
-use Rattle.lists.proofs.Tests.{T-false, eq→eqb}
-use Rattle.words.specs.Words.{above, bit, has, minus}
+use Rattle.lists.proofs.Tests.{T-both, T-either, T-false, T-true, eq→eqb}
+use Rattle.words.specs.Words.{above, bit, has, lowest, minus, upTo}
 
 -- Bits
 
@@ -229,3 +230,92 @@ unfolding above
 above-none w v b h =
     let e : 64 ≤ suc v = omega arith in
     rw (div-eq-of-lt {n = w} {m = 2 ^ suc v} (omega (arith, pow-mono e))) (omega arith)
+
+-- The least member
+
+-- what the code computes
+pub lowest-byte : (w : ℕ) → trailingZeros 64 w % 256 ≡ lowest w
+unfolding lowest
+lowest-byte w = mod-eq-of-lt (omega (arith, trailing-le 64 w))
+
+-- of an odd number the lowest digit is set; of an even one the zeros go on in its half
+odd-or-even : (P : ℕ → Type 0) (n t : ℕ) → (n % 2 ≡ 1 → P 0) → (n % 2 ≡ 0 → P (suc t)) → P (under (n % 2) t)
+odd-or-even P n t p q = bit-elim (λ (x : ℕ). n % 2 ≡ x → P (under x t)) q p (n % 2) (omega arith) refl
+
+has-odd : (w : ℕ) → w % 2 ≡ 1 → T (has w 0)
+unfolding has
+has-odd w e = let d : w / 1 % 2 ≡ 1 = omega arith in rw d tt
+
+trailing-in : (k w : ℕ) → 0 < w → w < 2 ^ k → T (has w (trailingZeros k w))
+unfolding trailingZeros
+trailing-in zero w p h = absurd (omega arith)
+trailing-in (suc k) w p h = odd-or-even (λ (x : ℕ). T (has w x)) w (trailingZeros k (w / 2)) (has-odd w)
+    (λ e. subst T (sym (has-half w (trailingZeros k (w / 2)))) (trailing-in k (w / 2) (omega arith) (omega (arith, h, pow-suc 2 k))))
+
+trailing-least : (k w v : ℕ) → v < trailingZeros k w → has w v ≡ false
+unfolding trailingZeros
+trailing-least zero w v h = absurd (omega arith)
+trailing-least (suc k) w v h =
+    odd-or-even (λ (x : ℕ). v < x → has w v ≡ false) w (trailingZeros k (w / 2)) (λ e l. absurd (omega arith))
+    (λ e l. below v e l (λ u l. trailing-least k (w / 2) u l)) h
+  where
+    below : (v : ℕ) → w % 2 ≡ 0 → v < suc (trailingZeros k (w / 2)) → ((u : ℕ) → u < trailingZeros k (w / 2) → has (w / 2) u ≡ false) → has w v ≡ false
+    below zero e l rest = has-even w e
+    below (suc v) e l rest = has-half w v ∙ rest v (omega arith)
+
+pub lowest-in : (w : ℕ) → 0 < w → w < 2 ^ 64 → T (has w (lowest w))
+unfolding lowest
+lowest-in w p h = trailing-in 64 w p h
+
+pub lowest-least : (w v : ℕ) → v < lowest w → has w v ≡ false
+unfolding lowest
+lowest-least w v h = trailing-least 64 w v h
+
+trailing-or : (k w : ℕ) → T (has w (trailingZeros k w)) ⊎ (trailingZeros k w ≡ k)
+unfolding trailingZeros
+trailing-or zero w = inr refl
+trailing-or (suc k) w = odd-or-even (λ (x : ℕ). T (has w x) ⊎ (x ≡ suc k)) w (trailingZeros k (w / 2)) (λ e. inl (has-odd w e))
+    (λ e. ⊎-elim (λ t. inl (subst T (sym (has-half w (trailingZeros k (w / 2)))) t)) (λ d. inr (ap suc d)) (trailing-or k (w / 2)))
+
+-- v is the least member of w above j; 64 where there is none
+pub record NextMember (w j v : ℕ) : Type 0 where
+  pub beyond : j < v
+  pub between : (u : ℕ) → j < u → u < v → has w u ≡ false
+  pub member : v < 64 → has w v ≡ true
+
+pub next-member : (w j : ℕ) → j < 64 → NextMember w j (lowest (above w j))
+unfolding lowest
+next-member w j h = record {
+  beyond = ⊎-elim (λ t. ltb→lt j v (parts t .1)) (λ e. omega arith) found;
+  between = λ u p q. sym (and-true (has w u)) ∙ ap (both (has w u)) (sym (lt-ltb j u p)) ∙ sym (has-above w j u) ∙ trailing-least 64 (above w j) u q;
+  member = λ q. ⊎-elim (λ t. T-true (has w v) .0 (parts t .0)) (λ e. absurd (omega arith)) found;
+}
+  where
+    v : ℕ
+    v = trailingZeros 64 (above w j)
+
+    found : T (has (above w j) v) ⊎ (v ≡ 64)
+    found = trailing-or 64 (above w j)
+
+    parts : T (has (above w j) v) → T (has w v) × T (ltb j v)
+    parts t = T-both (has w v) (ltb j v) .0 (subst T (has-above w j v) t)
+
+-- The numbers from 1 to n
+
+pub up-next : (n : ℕ) → bitOr (upTo n) (bit (n + 1)) ≡ upTo (n + 1)
+unfolding upTo
+up-next n = rw add-one
+
+pub up-has : (n v : ℕ) → n < 64 → T (has (upTo n) v) ↔ ((1 ≤ v) × (v ≤ n))
+unfolding upTo
+up-has zero v h = (λ t. absurd (rw has-zero at t), λ l. absurd (omega arith))
+up-has (suc n) v h = (
+  λ t. ⊎-elim
+      (λ (s : T (has (upTo n) v)). let l = up-has n v (omega arith) .0 s in (l .0, omega arith))
+      (λ (s : T (has (bit (suc n)) v)). let e = bit-out (suc n) v s in (omega arith, omega arith))
+      (simp (has-or, T-either) at t),
+  λ l. simp (has-or, T-either) (elim (ℕ-discrete v (suc n)) [
+    | yes e ↦ inr (bit-in (suc n) v (omega arith) (sym e))
+    | no d ↦ inl (up-has n v (omega arith) .1 (l .0, omega arith))
+  ]),
+)

@@ -1,7 +1,8 @@
 -- A set of numbers below 64 as a word: v is a member if bit v is 1 (the lowest is bit 0).
 use mathlib.Core.Bool.{Bool}
-use Prim.Native.Nat.{_*_, _/_, _%_, _^_, suc, ℕ}
-use lib.Bits.{bitAnd, bitXor}
+use Prim.Native.Nat.{_*_, _/_, _%_, _^_, suc, zero, ℕ}
+use lib.Count.{trailingZeros}
+use lib.Bits.{bitAnd, bitOr, bitXor}
 use lib.Dec.{eqb, ltb}
 use Rattle.lists.specs.Lists.{pick}
 
@@ -19,3 +20,13 @@ minus a b = bitXor a (bitAnd a b)
 -- the members above v
 unfoldable pub above : ℕ → ℕ → ℕ
 above w v = w / 2 ^ suc v * 2 ^ suc v
+
+-- the least member; 64 where there is none
+unfoldable pub lowest : ℕ → ℕ
+lowest w = trailingZeros 64 w
+
+-- the set of the numbers from 1 to n
+unfoldable pub upTo : ℕ → ℕ
+unfolding bit
+upTo zero = 0
+upTo (suc n) = bitOr (upTo n) (bit (suc n))

@@ -38,3 +38,23 @@ pub fn above(w: u64, v: u8) -> u64
         0
     }
 }
+
+/// The least member; 64 where there is none.
+pub fn lowest(w: u64) -> u8
+    ensures { λ r. ⌜ r ≡ words.lowest w ⌝ }
+{
+    (u64::trailing_zeros(w) % 256) as u8
+}
+
+/// The set of the numbers from 1 to n.
+pub fn up_to(n: u8) -> u64
+    ensures { λ r. ⌜ r ≡ words.upTo n ⌝ }
+{
+    let mut word: u64 = 0;
+    let mut v: u8 = 0;
+    while v < n {
+        v += 1;
+        word = word | bit(v);
+    }
+    word
+}

@@ -1,14 +1,17 @@
--- `front::degree` meets its contract: no more rows are counted than were looked at, and those left fall.
+-- `front::degree`: no more rows are counted than were looked at, and there are at most 256. The measure is how many rows are left.
 use Prim.Native.Nat.{_-_, _≤_}
 use borrow.Author.Needs.{needs}
 use Rattle.front.proofs.degree.Statement.{statement}
 use Rattle.front.proofs.degree.Tie as tie
 
 abbrev Inv-loop : tie.InvT-loop
-Inv-loop v firsts seconds count₀ r₀ count r = (count ≤ r) × (r ≤ 256)
+Inv-loop chart v m count₀ r₀ count r = (count ≤ r) × (r ≤ m) × (m ≤ 256)
 
 abbrev μ-loop : tie.MeasureT-loop
-μ-loop v firsts seconds count₀ r₀ count r = 256 - r
+μ-loop chart v m count₀ r₀ count r = m - r
+
+row-count-requires : tie.Need-row-count-requires Inv-loop μ-loop
+row-count-requires c κs = search needs
 
 loop-holds : tie.Need-loop-holds Inv-loop μ-loop
 loop-holds c = search needs
@@ -16,8 +19,8 @@ loop-holds c = search needs
 add-r : tie.Need-add-r Inv-loop μ-loop
 add-r c = search needs
 
-array-read-if1 : tie.Need-array-read-if1 Inv-loop μ-loop
-array-read-if1 c = search needs
+first-end-requires : tie.Need-first-end-requires Inv-loop μ-loop
+first-end-requires c κs = search needs
 
 add-count : tie.Need-add-count Inv-loop μ-loop
 add-count c = search needs
@@ -28,8 +31,8 @@ loop-less c = search needs
 loop-again : tie.Need-loop-again Inv-loop μ-loop
 loop-again c = search needs
 
-array-read-if2 : tie.Need-array-read-if2 Inv-loop μ-loop
-array-read-if2 c = search needs
+second-end-requires : tie.Need-second-end-requires Inv-loop μ-loop
+second-end-requires c κs = search needs
 
 add-count-2 : tie.Need-add-count-2 Inv-loop μ-loop
 add-count-2 c = search needs
@@ -55,13 +58,14 @@ degree-spec =
     (tie.spec
     Inv-loop
     μ-loop
+    row-count-requires
     loop-holds
     add-r
-    array-read-if1
+    first-end-requires
     add-count
     loop-less
     loop-again
-    array-read-if2
+    second-end-requires
     add-count-2
     loop-less-2
     loop-again-2

@@ -4,19 +4,43 @@ use borrow.Author.Needs.{needs}
 use Rattle.grow.proofs.first_path.Statement.{statement}
 use Rattle.grow.proofs.first_path.Tie as tie
 
+plant-requires : tie.Need-plant-requires
+plant-requires c κs = search needs
+
 start-requires : tie.Need-start-requires
 start-requires c κs = search needs
 
+nodes-requires : tie.Need-nodes-requires
+nodes-requires c κs = search needs
+
 fresh-after-requires : tie.Need-fresh-after-requires
 fresh-after-requires c κs = search needs
+
+width-requires : tie.Need-width-requires
+width-requires c κs = search needs
 
 grown-with-requires : tie.Need-grown-with-requires
 grown-with-requires c κs = search needs
 
 returns : tie.Need-returns
 returns c =
-    let at = c .before .before .start .ensures in
-    (c .grown-with .ensures .0 ∙ at .0, c .grown-with .ensures .1 ∙ (rw (c .before .fresh-after .ensures, at .0, at .1)))
+    let width = c .before in
+    let fresh = width .before in
+    let start = fresh .before .before in
+    let at = start .start .ensures in
+    let plant = at .0 ∙ start .before .plant .ensures in (
+      c .grown-with .ensures .0 ∙ plant,
+      c .grown-with .ensures .1 ∙ (rw (fresh .fresh-after .ensures, fresh .before .nodes .ensures, width .width .ensures, at .1, plant)),
+    )
 
 pub first-path-spec : {M : Type 1} → statement M
-first-path-spec = tie.close (tie.spec start-requires fresh-after-requires grown-with-requires returns)
+first-path-spec =
+    tie.close
+    (tie.spec
+    plant-requires
+    start-requires
+    nodes-requires
+    fresh-after-requires
+    width-requires
+    grown-with-requires
+    returns)

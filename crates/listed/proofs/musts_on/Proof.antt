@@ -12,11 +12,11 @@ length-requires : tie.Need-length-requires
 length-requires c κs = search needs
 
 array-share-prefix-rows : tie.Need-array-share-prefix-rows
-array-share-prefix-rows c = omega (arith, c .before .length .ensures, simp length-map at (c .before .before .before .good .1 .0 .1 .1 .0 .1 .0 .1))
+array-share-prefix-rows c = omega (arith, c .before .length .ensures, simp length-map at (c .before .before .good .1 .0 .1 .1 .0 .1 .0 .1))
 
 slice-aggregate-musts-dug : tie.Need-slice-aggregate-musts-dug
 slice-aggregate-musts-dug c =
-    let rows = simp length-map at (c .before .before .before .before .good .1 .0 .1 .1 .0 .1 .0 .1) in
+    let rows = simp length-map at (c .before .before .before .good .1 .0 .1 .1 .0 .1 .0 .1) in
     sym (length-take-le _ _ (omega (arith, c .before .before .length .ensures)))
 
 musts-dug-requires : tie.Need-musts-dug-requires
@@ -24,7 +24,7 @@ musts-dug-requires c κs = search needs
 
 returns : tie.Need-returns
 returns c =
-    let s = c .before .before .before .before .before in
+    let s = c .before .before .before .before in
     let rows = simp length-map at (s .good .1 .0 .1 .1 .0 .1 .0 .1) in
     let nodes = simp length-map at (s .good .1 .0 .1 .1 .1 .0 .1 .0 .1) in
     let pivots = simp length-map at (s .good .1 .0 .1 .1 .1 .1 .0 .1 .0 .1) in

@@ -1,4 +1,4 @@
--- `page::following` meets its contract.
+-- The path that is traced begins at the chart's plant, and has the steps of these places.
 use mathlib.Core.Path.{_∙_}
 use borrow.Author.Needs.{needs}
 use Rattle.page.proofs.following.Statement.{statement}

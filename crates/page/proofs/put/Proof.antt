@@ -1,10 +1,10 @@
--- The places that are copied are the rows of the path's steps (`rows-copied`), and they fit.
-use mathlib.Core.Path.{_∙_, _≡_, ap, ap₂, sym}
+-- The places that are copied are the rows of the path's steps (`rows-copied`).
+use mathlib.Core.Path.{_∙_, _≡_, ap₂, sym}
 use native.Mathlib.Omega.{arith}
 use lib.ListN.{length, length-map, take}
-use lib.Seq.{length-take-le, paste}
+use lib.Seq.{length-take-le}
 use borrow.Author.Needs.{needs}
-use Rattle.copies.proofs.Copies.{copied-all}
+use Rattle.copies.specs.Copies.{copied}
 use Rattle.paths.specs.Path.{rowsIn}
 use Rattle.paths.proofs.Laws.{rows-are, rows-long}
 use Rattle.page.proofs.put.Statement.{statement}
@@ -43,9 +43,7 @@ returns c =
     let at = c .before .before .before .before .before in
     let s = at .before .before .before .args in
     let (same, many) = rows-copied at in
-    c .before .before .copy-rows .ensures
-    ∙ copied-all (s .page .now) (s .at) (take (at .length .result) (s .path .rows)) (at .length .result) (omega (arith, many)) (omega (arith, ap length same, many))
-    ∙ ap₂ (paste (s .page .now) (s .at)) same many
+    c .before .before .copy-rows .ensures ∙ ap₂ (copied (s .page .now) (s .at)) same many
 
 pub put-spec : {M : Type 1} → statement M
 put-spec =

@@ -3,8 +3,11 @@ use Rattle.reach.specs.Reached.{reachedWord}
 use Rattle.reach.proofs.reached_word.Statement.{statement}
 use Rattle.reach.proofs.reached_word.Tie as tie
 
-neighbours-requires : tie.Need-neighbours-requires
-neighbours-requires c κs = search needs
+plant-requires : tie.Need-plant-requires
+plant-requires c κs = search needs
+
+nodes-requires : tie.Need-nodes-requires
+nodes-requires c κs = search needs
 
 bit-requires : tie.Need-bit-requires
 bit-requires c κs = search needs
@@ -15,14 +18,8 @@ minus-requires c κs = search needs
 slice-aggregate-seeds : tie.Need-slice-aggregate-seeds
 slice-aggregate-seeds c = search needs
 
-slice-aggregate-seeds-2 : tie.Need-slice-aggregate-seeds-2
-slice-aggregate-seeds-2 c = search needs
-
 seeds-requires : tie.Need-seeds-requires
 seeds-requires c κs = search needs
-
-slice-aggregate-spread : tie.Need-slice-aggregate-spread
-slice-aggregate-spread c = search needs
 
 spread-requires : tie.Need-spread-requires
 spread-requires c κs = search needs
@@ -33,26 +30,22 @@ bit-requires-2 c κs = search needs
 returns : tie.Need-returns
 unfolding reachedWord
 returns c =
-    rw (
-      c .bit2 .ensures,
-      c .before .spread .ensures,
-      c .before .before .before .seeds .ensures,
-      c .before .before .before .before .before .before .minus .ensures,
-      c .before .before .before .before .before .before .before .bit .ensures,
-      c .before .before .before .before .before .before .before .before .neighbours .ensures,
-    )
+    let seeds = c .before .before in
+    let fresh = seeds .before .before in
+    let bit = fresh .before in
+    let nodes = bit .before in
+    rw (c .bit2 .ensures, c .before .spread .ensures, seeds .seeds .ensures, fresh .minus .ensures, bit .bit .ensures, nodes .nodes .ensures, nodes .before .plant .ensures)
 
 pub reached-word-spec : {M : Type 1} → statement M
 reached-word-spec =
     tie.close
     (tie.spec
-    neighbours-requires
+    plant-requires
+    nodes-requires
     bit-requires
     minus-requires
     slice-aggregate-seeds
-    slice-aggregate-seeds-2
     seeds-requires
-    slice-aggregate-spread
     spread-requires
     bit-requires-2
     returns)

@@ -1,4 +1,4 @@
--- `sought::above` meets its contract.
+-- Below the top the step is one, at the top none; past the criteria the limit is 1.
 use native.Mathlib.Omega.{arith}
 use borrow.Author.Tests.{le-ltb, lt-ltb}
 use borrow.Author.Needs.{needs}

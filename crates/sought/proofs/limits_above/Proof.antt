@@ -1,4 +1,4 @@
--- `sought::limits_above` meets its contract.
+-- The four limits, each by `above`.
 use Rattle.sought.specs.Sought.{upFrom}
 use borrow.Author.Needs.{needs}
 use Rattle.sought.proofs.limits_above.Statement.{statement}

@@ -1,4 +1,4 @@
--- `sought::next_row` meets its contract.
+-- The known rows are the first places of the table, which has as many.
 use mathlib.Core.Path.{sym}
 use lib.Seq.{length-take-le}
 use borrow.Author.Needs.{needs}

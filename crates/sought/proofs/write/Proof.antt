@@ -1,4 +1,4 @@
--- `sought::write` meets its contract.
+-- Both copies are whole (`copied-all`): the tables hold one more row, and a path has as many rows as a tree.
 use mathlib.Core.Path.{_∙_, ap, sym}
 use Prim.Native.Nat.{_*_, ℕ}
 use native.Mathlib.Nat.{add-mul, one-mul}
@@ -65,16 +65,19 @@ same-length-2 c = search needs
 returns : tie.Need-returns
 unfolding rowOf
 returns c =
-    let (into, few, long) = c .before .before .before .before .before .before .before .before .before .before .before .before .before .pre in
-    let p = c .before .before .before .before .before .before .before .before .before .before .before .before .before .args .path in
-    let rows = simp length-map at (c .before .before .before .before .before .before .before .before .before .before .before .before .before .good .1 .1 .1 .1 .1 .1 .0 .1 .1 .0 .1 .0 .1) in
-    let nodes = simp length-map at (c .before .before .before .before .before .before .before .before .before .before .before .before .before .good .1 .1 .1 .1 .1 .1 .0 .1 .1 .1 .0 .1 .0 .1) in
-    let pivots = simp length-map at (c .before .before .before .before .before .before .before .before .before .before .before .before .before .good .1 .1 .1 .1 .1 .1 .0 .1 .1 .1 .1 .0 .1 .0 .1) in
+    let begin = c .before .before .before .before .before .before .before .before .before .before .before .before .before in
+    let a = begin .args in
+    let (into, few, long) = begin .pre in
+    let p = a .path in
+    let rows = simp length-map at (begin .good .1 .1 .1 .1 .1 .1 .0 .1 .1 .0 .1 .0 .1) in
+    let nodes = simp length-map at (begin .good .1 .1 .1 .1 .1 .1 .0 .1 .1 .1 .0 .1 .0 .1) in
+    let pivots = simp length-map at (begin .good .1 .1 .1 .1 .1 .1 .0 .1 .1 .1 .1 .0 .1 .0 .1) in
     let count = long ∙ length-map (keysOf p) _ ∙ keys-length p nodes rows pivots in (
       c .before .before .before .before .before .before .before .copy-costs .ensures ∙ copied-all _ _ _ _ (rw (add-mul, one-mul) at (into .costs-fit)) few,
       c .before .before .copy-rows .ensures ∙ copied-all _ _ _ _ (rw (add-mul, one-mul) at (into .trees-fit))
           (omega (arith, long, ap length (rows-are p nodes rows pivots), length-take (lengthOf p) (p .rows), rows))
-          ∙ paste-part (c .before .before .before .before .before .before .before .before .before .before .before .before .before .args .witnesses .now) (c .before .before .before .before .before .before .before .before .before .before .before .before .before .args .count * c .before .before .before .before .before .before .before .before .before .before .before .before .before .args .width) (p .rows) (rowsIn p) (c .before .before .before .before .before .before .before .before .before .before .before .before .before .args .width) (ap (λ (m : ℕ). take m (p .rows)) count ∙ sym (rows-are p nodes rows pivots) ∙ sym (take-all (c .before .before .before .before .before .before .before .before .before .before .before .before .before .args .width) (rowsIn p) (omega (arith, long)))),
+          ∙ paste-part (a .witnesses .now) (a .count * a .width) (p .rows) (rowsIn p) (a .width)
+          (ap (λ (m : ℕ). take m (p .rows)) count ∙ sym (rows-are p nodes rows pivots) ∙ sym (take-all (a .width) (rowsIn p) (omega (arith, long)))),
     )
 
 pub write-spec : {M : Type 1} → statement M

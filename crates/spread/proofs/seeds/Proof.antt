@@ -4,18 +4,19 @@ use native.Mathlib.Omega.{arith}
 use lib.Bits.{bitOr}
 use lib.ListN.{length}
 use borrow.Author.Needs.{needs}
+use Rattle.chart.specs.Chart.{nearIn}
 use Rattle.spread.specs.Spread.{openFrom, seedsOf}
 use Rattle.spread.proofs.Sweeps.{seeds-end, seeds-more, seeds-none, seeds-start}
 use Rattle.spread.proofs.seeds.Statement.{statement}
 use Rattle.spread.proofs.seeds.Tie as tie
 
 abbrev Inv-loop : tie.InvT-loop
-Inv-loop neighbours fresh entered place node word₀ i₀ word i =
+Inv-loop chart must fresh entered place node word₀ i₀ word i =
     (i ≤ length entered)
-    × (seedsOf neighbours fresh entered place node ≡ bitOr word (openFrom neighbours fresh entered (length entered - i) i))
+    × (seedsOf (nearIn must chart) fresh entered place node ≡ bitOr word (openFrom (nearIn must chart) fresh entered (length entered - i) i))
 
 abbrev μ-loop : tie.MeasureT-loop
-μ-loop neighbours fresh entered place node word₀ i₀ word i = length entered - i
+μ-loop chart must fresh entered place node word₀ i₀ word i = length entered - i
 
 returns : tie.Need-returns Inv-loop μ-loop
 returns c = seeds-none _ _ _ _ _ (c .if1 .taken)
@@ -49,9 +50,9 @@ loop-less c = search needs
 
 loop-again : tie.Need-loop-again Inv-loop μ-loop
 loop-again c =
-    let a = c .before .before .before .before .before .before .before .before .before .before .args in
+    let a = c .before .before .before .before .before .before .before .before .before .args in
     let at = c .before .before .before .loop in
-    let more = seeds-more (a .neighbours .now) (a .fresh) (a .entered .now) (at .word) (at .i) (c .before .before .loop-test .taken) in
+    let more = seeds-more (nearIn (a .must) (a .chart .now)) (a .fresh) (a .entered .now) (at .word) (at .i) (c .before .before .loop-test .taken) in
     (omega arith, rw (c .open-at2 .ensures) (at .inv .1 ∙ more))
 
 returns-2 : tie.Need-returns-2 Inv-loop μ-loop

@@ -16,11 +16,7 @@ add-result c = search needs
 
 returns-2 : tie.Need-returns-2
 unfolding entryAfter
-returns-2 c = simp (le-ltb _ _ (c .before .if1 .left), lt-ltb _ _ (c .if2 .taken))
-
-returns-3 : tie.Need-returns-3
-unfolding entryAfter
-returns-3 c = simp (le-ltb _ _ (c .before .if1 .left), le-ltb _ _ (c .if2 .left))
+returns-2 c = simp (le-ltb _ _ (c .if1 .left))
 
 pub entry-after-spec : {M : Type 1} → statement M
-entry-after-spec = tie.close (tie.spec returns cast-result add-result returns-2 returns-3)
+entry-after-spec = tie.close (tie.spec cast-result add-result returns returns-2)

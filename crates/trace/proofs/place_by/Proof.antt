@@ -1,4 +1,3 @@
-use native.Mathlib.Omega.{arith}
 use borrow.Author.Needs.{needs}
 use borrow.Author.Tests.{le-ltb, lt-ltb}
 use Rattle.trace.specs.Trace.{placeBy}
@@ -27,11 +26,7 @@ add-result c = search needs
 
 returns-3 : tie.Need-returns-3
 unfolding placeBy
-returns-3 c = rw (le-ltb _ _ (c .before .before .if1 .left), le-ltb _ _ (c .before .if2 .left)) (omega arith)
-
-returns-4 : tie.Need-returns-4
-unfolding placeBy
-returns-4 c = rw (le-ltb _ _ (c .before .before .if1 .left), le-ltb _ _ (c .before .if2 .left)) (omega arith)
+returns-3 c = simp (le-ltb _ _ (c .before .if1 .left), le-ltb _ _ (c .if2 .left))
 
 pub place-by-spec : {M : Type 1} → statement M
-place-by-spec = tie.close (tie.spec sub-result returns sub-result-2 returns-2 cast-result add-result returns-3 returns-4)
+place-by-spec = tie.close (tie.spec sub-result returns sub-result-2 returns-2 cast-result add-result returns-3)

@@ -1,4 +1,4 @@
--- `treelist::print_list` meets its contract. Its loop ends since each turn leaves fewer trees behind the start of the next call.
+-- The loop's invariant: the buffers keep their lengths, and `total` counts the trees up to the start of the next call (`Run`). The measure is the trees behind it.
 use mathlib.Core.Path.{_∙_, _≡_, refl}
 use Prim.Native.Nat.{_-_, _<_, _≤_}
 use native.Mathlib.Omega.{arith}
@@ -12,19 +12,19 @@ use Rattle.treelist.proofs.print_list.Statement.{statement}
 use Rattle.treelist.proofs.print_list.Tie as tie
 
 abbrev Inv-loop : tie.InvT-loop
-Inv-loop out₀ from file firsts seconds page₀ n k width start₀ len₀ total₀ at₀ out page start len total at =
+Inv-loop out₀ from file chart h page₀ n width start₀ len₀ total₀ at₀ out page start len total at =
     (len ≤ 31) × (length start ≡ 31) × (length page ≡ length page₀) × (length out ≡ length out₀) × Run file (take len start) total
 
 abbrev μ-loop : tie.MeasureT-loop
-μ-loop out₀ from file firsts seconds page₀ n k width start₀ len₀ total₀ at₀ out page start len total at =
+μ-loop out₀ from file chart h page₀ n width start₀ len₀ total₀ at₀ out page start len total at =
     length (restAfter (layoutsIn file) (take len start))
 
--- the entry of the function, and the head of the loop, from a call of Page
-abbrev entry : tie.After-page Inv-loop μ-loop → tie.Start Inv-loop μ-loop
-entry c = c .before .before .before .before .before .before .before .before .before .before
-
+-- the head of the loop, and the entry of the function, from a call of Page
 abbrev head : tie.After-page Inv-loop μ-loop → tie.At-loop Inv-loop μ-loop
 head c = c .before .before .before
+
+abbrev entry : tie.After-page Inv-loop μ-loop → tie.Start Inv-loop μ-loop
+entry c = head c .before .before .before .before
 
 -- the call of Page, from where its trees are counted
 abbrev paged : tie.After-held Inv-loop μ-loop → tie.After-page Inv-loop μ-loop
@@ -64,9 +64,6 @@ moved c =
     let counted = c .before .before .before .before in
     let given = entry (paged counted) .pre .0 in
     copied-on (c .by-value .result) _ (given .low) (given .high) (left (c .before .before)) (c .before .pick .ensures) (c .by-value .ensures .1) (counted .held .ensures)
-
-cast-k : tie.Need-cast-k Inv-loop μ-loop
-cast-k c = search needs
 
 cast-width : tie.Need-cast-width Inv-loop μ-loop
 cast-width c = search needs
@@ -146,7 +143,6 @@ print-list-spec =
     (tie.spec
     Inv-loop
     μ-loop
-    cast-k
     cast-width
     sub-width
     loop-holds

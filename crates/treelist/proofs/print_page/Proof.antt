@@ -1,4 +1,4 @@
--- `treelist::print_page` is safe and ends: the buffer keeps its length, and the measure is the trees left.
+-- The loop's invariant: the buffer keeps its length. The measure is the trees left.
 use mathlib.Core.Path.{_≡_}
 use Prim.Native.Nat.{_-_, _≤_}
 use lib.ListN.{length}
@@ -7,10 +7,13 @@ use Rattle.treelist.proofs.print_page.Statement.{statement}
 use Rattle.treelist.proofs.print_page.Tie as tie
 
 abbrev Inv-loop : tie.InvT-loop
-Inv-loop out₀ from file firsts seconds n k page count at₀ t₀ out at t = (t ≤ count) × (length out ≡ length out₀)
+Inv-loop out₀ from file chart h page count k at₀ t₀ out at t = (t ≤ count) × (length out ≡ length out₀)
 
 abbrev μ-loop : tie.MeasureT-loop
-μ-loop out₀ from file firsts seconds n k page count at₀ t₀ out at t = count - t
+μ-loop out₀ from file chart h page count k at₀ t₀ out at t = count - t
+
+cast-k : tie.Need-cast-k Inv-loop μ-loop
+cast-k c = search needs
 
 loop-holds : tie.Need-loop-holds Inv-loop μ-loop
 loop-holds c = search needs
@@ -42,6 +45,7 @@ print-page-spec =
     (tie.spec
     Inv-loop
     μ-loop
+    cast-k
     loop-holds
     pick-requires
     print-tree-requires

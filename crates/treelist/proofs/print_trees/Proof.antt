@@ -1,12 +1,12 @@
--- `treelist::print_trees` meets its contract: the page that it lends has room for a tree.
+-- The page that is lent has room for a tree.
 use native.Mathlib.Omega.{arith}
 use lib.ListN.{length-take}
 use borrow.Author.Needs.{needs}
 use Rattle.treelist.proofs.print_trees.Statement.{statement}
 use Rattle.treelist.proofs.print_trees.Tie as tie
 
-ends-of-requires : tie.Need-ends-of-requires
-ends-of-requires c κs = search needs
+of-file-requires : tie.Need-of-file-requires
+of-file-requires c κs = search needs
 
 page-space-requires : tie.Need-page-space-requires
 page-space-requires c κs = search needs
@@ -24,13 +24,7 @@ mul-places : tie.Need-mul-places
 mul-places c = search needs
 
 slice-aggregate-print-list : tie.Need-slice-aggregate-print-list
-slice-aggregate-print-list c = search needs
-
-slice-aggregate-print-list-2 : tie.Need-slice-aggregate-print-list-2
-slice-aggregate-print-list-2 c = search needs
-
-slice-aggregate-print-list-3 : tie.Need-slice-aggregate-print-list-3
-slice-aggregate-print-list-3 c = simp length-take (omega arith)
+slice-aggregate-print-list c = simp length-take (omega arith)
 
 print-list-requires : tie.Need-print-list-requires
 print-list-requires c κs = (search needs, simp length-take (omega arith))
@@ -45,15 +39,13 @@ pub print-trees-spec : {M : Type 1} → statement M
 print-trees-spec =
     tie.close
     (tie.spec
-    ends-of-requires
+    of-file-requires
     page-space-requires
     slice-aggregate-page
     cast-places
     sub-places
     mul-places
     slice-aggregate-print-list
-    slice-aggregate-print-list-2
-    slice-aggregate-print-list-3
     print-list-requires
     same-length
     returns)

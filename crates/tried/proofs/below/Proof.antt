@@ -1,6 +1,7 @@
 -- The loop's invariant: check 9 comes to what it comes to from row i on. Its measure: the rows that are left.
 use mathlib.Core.Path.{_∙_, _≡_, sym}
 use Prim.Native.Nat.{_-_}
+use native.Mathlib.Omega.{arith}
 use lib.Dec.{ltb}
 use lib.ListN.{drop, length}
 use borrow.Author.Tests.{le-ltb, lt-ltb}
@@ -24,6 +25,9 @@ mul-if1 c = search needs
 
 shared-slice-read-if1 : tie.Need-shared-slice-read-if1 Inv-loop μ-loop
 shared-slice-read-if1 c = search needs
+
+cast-if1 : tie.Need-cast-if1 Inv-loop μ-loop
+cast-if1 c = omega (arith, c .shared-slice-known .given (c .before .before .loop .i))
 
 returns : tie.Need-returns Inv-loop μ-loop
 returns c = sym (c .before .before .before .loop .inv ∙ all-stop _ _ _ (c .before .before .loop-test .taken) (le-ltb _ _ (c .if1 .taken)))
@@ -49,6 +53,7 @@ below-spec =
     loop-holds
     mul-if1
     shared-slice-read-if1
+    cast-if1
     returns
     add-i
     loop-less

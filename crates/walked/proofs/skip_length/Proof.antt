@@ -1,4 +1,4 @@
--- `walked::skip_length` meets its contract.
+-- `walked::skip_length`: a path has as many rows as steps.
 use lib.ListN.{length-map}
 use Rattle.vector.proofs.Laws.{path-counted}
 use borrow.Author.Needs.{needs}
