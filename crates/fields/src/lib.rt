@@ -7,7 +7,7 @@ ghost use Rattle.lists.specs.Lists.{pick};
 ghost use Rattle.costs.specs.Costs.{costAt};
 ghost use Rattle.costs.specs.Layouts.{isBarred, isMust};
 ghost use Rattle.costs.specs.Network.{rowAt};
-ghost use Rattle.network_file.specs.File.{byteAt, lengthField, networkOf, rowBytes, rowStart, sizesOf, stateByte, stateOf, stateOr, stateWidth, u16At, u32At, version};
+ghost use Rattle.network_file.specs.File.{byteAt, lengthField, networkOf, rowBytes, rowStart, sizesOf, stateOf, stateOr, stateWidth, u16At, u32At, version};
 ghost use Rattle.fields.specs.Fields.{rowWith, sizesIn, stateIn, stateNamed};
 
 /// The nodes, the rows and the criteria of a network file.
@@ -166,13 +166,6 @@ fn state_at(file: &[u8], at: usize) -> u8
     } else {
         0
     }
-}
-
-/// The state byte of a row; a row of version 1 is open.
-pub fn state_byte(file: &[u8], row: u16) -> u8
-    ensures { λ r. ⌜ r ≡ stateByte (now (file .entry)) row ⌝ }
-{
-    state_at(file, row_start(file, row))
 }
 
 // As `row_at`, byte by byte, also of a file that is cut short.

@@ -113,11 +113,11 @@ module _ (g : Graph) (wf : WellFormed g) (gone : ℕ → Bool) (firsts seconds :
 
   -- Steps and reach, by the rows that are left
 
-  joins-kept : {r u v : ℕ} → Joins h r u v → u ∈ g .nodes → v ∈ g .nodes → ¬ T (gone r)
+  pub joins-kept : {r u v : ℕ} → Joins (endsAs g firsts seconds) r u v → u ∈ g .nodes → v ∈ g .nodes → ¬ T (gone r)
   joins-kept {r} (forth a b) i j t = wf .noZero (mem-cast (sym (m .absent r t) ∙ a) i)
   joins-kept {r} (back a b) i j t = wf .noZero (mem-cast (sym (m .absent r t) ∙ a) j)
 
-  joins-own : {r u v : ℕ} → ¬ T (gone r) → Joins h r u v → Joins g r u v
+  pub joins-own : {r u v : ℕ} → ¬ T (gone r) → Joins (endsAs g firsts seconds) r u v → Joins g r u v
   joins-own {r} n (forth a b) = forth (sym (m .first r n) ∙ a) (sym (m .second r n) ∙ b)
   joins-own {r} n (back a b) = back (sym (m .first r n) ∙ a) (sym (m .second r n) ∙ b)
 

@@ -1,5 +1,5 @@
 -- Growing in the theory of growing paths: the words of fresh nodes stay right (`ready-after`, `ready-back`, `fresh-ready`), what `growOf` adds are
--- least legal steps (`grow-steps`), of a live state the least completion (`grow-least`), and `openPast` says what is still reached (`open-past`).
+-- least legal steps (`grow-steps`), and `openPast` says what is still reached (`open-past`).
 use mathlib.Core.Path.{_∙_, _≡_, ap, refl, subst, sym}
 use mathlib.Core.Bool.{false}
 use mathlib.Core.Logic.{_↔_, _⊎_, inl, inr, ⊎-elim}
@@ -14,15 +14,14 @@ use lib.Dec.{T, T-not, not-T}
 use lib.ListN.{length, length-append, length-map}
 use lib.Seq.{append-snoc}
 use borrow.Author.Tests.{lt-ltb}
-use Rattle.lists.proofs.Distinct.{filled, mem?}
-use Rattle.lists.proofs.Members.{_∈_, _⊆_, not-snoc, range-out, snoc-new, snoc-old}
+use Rattle.lists.proofs.Members.{_∈_, not-snoc, range-out, snoc-new, snoc-old}
 use Rattle.lists.proofs.Tests.{T-both, T-either}
 use Rattle.graph.specs.Graph.{Graph, rowNumbers}
 use Rattle.graph.specs.Paths.{Key}
-use Rattle.graph.proofs.Growth.{Legal, Live, Reaches, State, after, bound, pivot-below, some-step, start}
-use Rattle.graph.proofs.Least.{AnyKey, Least, LeastCompletion, Sound, sound-after}
+use Rattle.graph.proofs.Growth.{Legal, Reaches, State, after, bound, pivot-below, start}
+use Rattle.graph.proofs.Least.{AnyKey, Least, Sound, sound-after}
 use Rattle.graph.proofs.Minimal.{sound-start}
-use Rattle.graph.proofs.Walk.{Leasts, Legals, least-all, leasts-legal, leasts-live, sound-walk, stateAfter, stateAfter-length}
+use Rattle.graph.proofs.Walk.{Leasts, Legals, stateAfter}
 use Rattle.words.specs.Words.{bit, has, minus}
 use Rattle.words.proofs.Words.{bit-in, bit-out, has-minus, has-or}
 use Rattle.chart.proofs.Charts.{Charted, Charts, Ready, few}
@@ -121,12 +120,6 @@ pub record Grown (g : Graph) (s : State) (keys answer : List Key) (steps : ℕ) 
   pub least : Leasts g (rowNumbers g) s more
   pub ends : (length more ≡ steps) ⊎ ((m : Key) → ¬ Legal g (rowNumbers g) (stateAfter s more) m)
 
--- `answer` is `keys` and the least completion behind them
-pub record Completed (g : Graph) (s : State) (keys answer : List Key) : Type 0 where
-  pub more : List Key
-  pub whole : answer ≡ keys ++ more
-  pub least : LeastCompletion g (rowNumbers g) s more
-
 module _ {c : List ℕ} (right : Charts c) where
   abbrev g : Graph
   g = graphIn c
@@ -177,31 +170,6 @@ module _ {c : List ℕ} (right : Charts c) where
           let left : suc steps - 1 ≡ steps = omega arith in
           rw (grow-some _ _ (suc steps) fresh keys _ _ k (omega arith) e refl d, step-kept keys short e (omega arith) (h .legal), left)
           (grown-cons s steps keys _ k h (later k (h .legal)))
-
-  -- enough steps from a live state complete it
-  pub grow-least : (steps : ℕ) (keys : List Key) {s : State} {fresh : ℕ}
-      → s .entered ≡ enteredBy (g .plant) keys → Ready g s fresh → length keys + steps ≤ 31
-      → Live g (rowNumbers g) s → length (g .nodes) ≤ length (s .entered) + steps
-      → Completed (graphIn c) s keys (growOf c (graphIn c .plant) steps fresh keys (s .place) (s .node))
-  grow-least steps keys {s} {fresh} e r room live enough =
-      record { more = o .more; whole = o .whole; least = least-all g (rowNumbers g) s (o .more) (o .least) (⊎-elim full stuck (o .ends)) }
-    where
-      o : Grown g s keys (grow s steps fresh keys) steps
-      o = grow-steps steps keys e r room
-
-      end : State
-      end = stateAfter s (o .more)
-
-      full : length (o .more) ≡ steps → g .nodes ⊆ end .entered
-      full long =
-          let sound = sound-walk g (rowNumbers g) s (o .more) (r .sound) (leasts-legal g (rowNumbers g) s (o .more) (o .least)) in
-          filled ℕ-discrete (end .entered) (g .nodes) (sound .once) (sound .nodes) (omega (arith, stateAfter-length s (o .more)))
-
-      stuck : ((m : Key) → ¬ Legal g (rowNumbers g) end m) → g .nodes ⊆ end .entered
-      stuck none-legal v m = elim (mem? ℕ-discrete v (end .entered)) [
-        | yes i ↦ i
-        | no f ↦ let (k, h) = some-step g (rowNumbers g) end (leasts-live g (rowNumbers g) s (o .more) (o .least) live v m f) in absurd (none-legal k h)
-      ]
 
   -- whether a node is still reached once the bound is moved up to a step to it
   pub open-past : {s : State} {fresh : ℕ} (keys : List Key) (place node : ℕ) → s .entered ≡ enteredBy (g .plant) keys → Ready g s fresh

@@ -16,12 +16,12 @@ use Rattle.lists.specs.Lists.{filterB, member}
 use Rattle.lists.proofs.Distinct.{Distinct, filled, filter-distinct}
 use Rattle.lists.proofs.Members.{_∈_, _⊆_, filter-in, filter-out, member-in, member-out, range-out}
 use Rattle.lists.proofs.Tests.{T-both, decide, pick-elim}
-use Rattle.graph.specs.Graph.{Graph, firstEnd, rowNumbers}
+use Rattle.graph.specs.Graph.{Graph, rowNumbers}
 use Rattle.graph.specs.Paths.{Key, follows}
 use Rattle.graph.proofs.Growth.{Joins, Legal, Reaches, State, after, back, direct, forth, legal-with, onward}
 use Rattle.graph.proofs.Keys.{KeyCases, KeyLess, ahead, beside, follows-in, follows-out, key-compare, key-trans}
 use Rattle.graph.proofs.Least.{Least}
-use Rattle.graph.proofs.Masked.{masked-legal, masked-reaches, reaches-masked}
+use Rattle.graph.proofs.Masked.{joins-kept, joins-own, masked-legal, masked-reaches, reaches-masked}
 use Rattle.graph.proofs.Minimal.{rowNumbers-in}
 use Rattle.graph.proofs.Walk.{stateAfter, stateAfter-length}
 use Rattle.states.proofs.Rest.{Begun}
@@ -135,16 +135,12 @@ module _ {c : List ℕ} (right : Charts c) {s : State} (b : Begun (graphIn c) s)
   unclaimed-headed : Headed unclaimed (headIn c)
   unclaimed-headed u v r m n l j = right .headed u v r (node-out u m .0) (node-out v n .0) l (joins-up j)
 
-  -- a must row joins what it joins in the graph: it has its own ends, and the ends of no other row are nodes
+  -- a must row joins what it joins in the graph
   must-joins : {r u v : ℕ} → u ∈ g .nodes → v ∈ g .nodes → Joins h r u v → Joins g r u v
-  must-joins {r} {u} {v} m n j = own j
-    where
-      kept : {w : ℕ} → w ∈ g .nodes → firstEnd h r ≡ w → ¬ T (spared musts r)
-      kept i a t = right .charted .formed .noZero (mem-cast (sym (masked c .absent r t) ∙ a) i)
-
-      own : Joins h r u v → Joins g r u v
-      own (forth a b) = forth (sym (masked c .first r (kept m a)) ∙ a) (sym (masked c .second r (kept m a)) ∙ b)
-      own (back a b) = back (sym (masked c .first r (kept n a)) ∙ a) (sym (masked c .second r (kept n a)) ∙ b)
+  must-joins m n j =
+      let formed = right .charted .formed in
+      let own = joins-kept g formed (spared musts) mustFirsts mustSeconds (masked c) j m n in
+      joins-own g formed (spared musts) mustFirsts mustSeconds (masked c) own j
 
   must-headed : Headed h (headIn c)
   must-headed u v r m n l j = right .headed u v r m n l (must-joins m n j)

@@ -149,6 +149,3 @@ module _ (f : List ℕ) where
           list = file-list f a c₀ empty;
           some-tree = some-out _ (rw (file-list f a c₀ empty) (T-true _ .1 (l .tree)));
         })
-
-    pub listing-refused : (e : ℕ) → openedOf r ≡ refused e → firstUnmet (listedChecks f) ≡ some e
-    listing-refused e h = refused-by e (sym (promised .0 empty) ∙ h)

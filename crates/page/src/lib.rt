@@ -3,23 +3,20 @@
 ghost use mathlib.Core.Path.{_≡_};
 ghost use mathlib.Core.List.{List};
 ghost use Prim.Native.Nat.{ℕ};
-ghost use lib.ListN.{getElem?, length};
+ghost use lib.ListN.{getElem?};
 ghost use Rattle.chart.specs.Chart.{listIn, plantIn, widthIn};
 ghost use Rattle.checks.specs.Checks.{firstUnmet};
-ghost use Rattle.copies.specs.Copies.{copied};
 ghost use Rattle.network.specs.Answers.{openedOf};
 ghost use Rattle.network_file.specs.File.{networkOf};
 ghost use Rattle.operations.specs.Operations.{pageCall, startChecks};
 ghost use Rattle.pages.proofs.TreePages.{Starts};
 ghost use Rattle.pages.specs.Pages.{restAfter};
 ghost use Rattle.trace.specs.Trace.{tracedIn};
-ghost use Rattle.walk.specs.Walk.{afterOf, nextOf};
-ghost use Rattle.paths.specs.Path.{rowsIn};
+ghost use Rattle.trail.specs.Trail.{Holds};
 ghost use Rattle.page.specs.Answers.{numbered, pagedOf, refusedBy};
-ghost use Rattle.page.specs.Walkable.{ChartOf, Walkable, filledBy, rowsOpt};
+ghost use Rattle.page.specs.Walkable.{ChartOf, Comes, Walkable, filledBy};
 use network::Opened;
-use paths::Path;
-use walk::Next;
+use trail::Turn;
 
 /// The answer of Page: how many trees were written, and whether a tree follows.
 pub enum PageAnswer {
@@ -27,67 +24,78 @@ pub enum PageAnswer {
     Refused(u8),
 }
 
-// Writes the rows of a path from a place of the page on, as many as the page has room for.
-fn put(page: &mut [u16], at: usize, path: Path)
-    ensures { λ _. ⌜ now (page .exit) ≡ copied (now (page .entry)) at (rowsIn path) (length (rowsIn path)) ⌝ }
-{
-    let rows = path.rows;
-    let n = path.length();
-    copies::copy_rows(page, at, &rows[..n], n);
-}
-
-// The first path behind all that begin with the rows in these places.
-fn following(chart: &[u64; chart::LENGTH], places: &[u16]) -> Next
-    ensures { λ r. ⌜ nextOf r ≡ afterOf (now (chart .entry)) (plantIn (now (chart .entry))) (tracedIn (now (chart .entry)) (now (places .entry))) (length (now (places .entry))) ⌝ }
-{
-    let path = trace::trace(chart, places);
-    let len = places.len();
-    walk::after(chart, path, len)
-}
-
-// The first path behind the start; the first of all where the start is empty.
-fn behind(chart: &[u64; chart::LENGTH], start: &[u16]) -> Next
-    ensures { λ r. ⌜ (Walkable (now (chart .entry)) → Starts (listIn (now (chart .entry))) (now (start .entry)) → rowsOpt (nextOf r) ≡ getElem? (restAfter (listIn (now (chart .entry))) (now (start .entry))) 0) ⌝ }
+// What comes behind the start; from the first path on where the start is empty.
+fn first_turn(
+    chart: &[u64; chart::LENGTH],
+    entered: &[u8],
+    pivots: &[u8; 31],
+    sets: &[u64; 32],
+    start: &[u16],
+) -> Turn
+    ensures { λ r. ⌜ (Walkable (now (chart .entry)) → Starts (listIn (now (chart .entry))) (now (start .entry)) → Holds (now (entered .entry)) (now (pivots .entry)) (now (sets .entry)) (plantIn (now (chart .entry))) (tracedIn (now (chart .entry)) (now (start .entry))) → Comes (now (chart .entry)) (tracedIn (now (chart .entry)) (now (start .entry))) r (getElem? (restAfter (listIn (now (chart .entry))) (now (start .entry))) 0)) ⌝ }
 {
     if 0 < start.len() {
-        return following(chart, start);
+        return trail::next_turn(chart, entered, pivots, sets, start);
     }
-    let first = grow::first_path(chart);
-    Next {
+    Turn {
         some: true,
-        path: first,
+        at: 0,
+        place: 0,
+        node: 0,
+        row: 0,
     }
 }
 
 /// Fills the page with the trees of the chart's list behind the start, as many as remain and fit.
-/// Each is read from its places in the page to find the next.
+/// Each is read from its places in the page to find the next; its nodes, its pivots' places and their sets are kept in arrays from tree to tree.
 pub fn fill(chart: &[u64; chart::LENGTH], page: &mut [u16], start: &[u16]) -> PageAnswer
     ensures { λ r. ⌜ (Walkable (now (chart .entry)) → Starts (listIn (now (chart .entry))) (now (start .entry)) → record { outcome = pagedOf r; buffers = now (page .exit) } ≡ filledBy (widthIn (now (chart .entry))) (now (page .entry)) (restAfter (listIn (now (chart .entry))) (now (start .entry)))) ⌝ }
 {
     let width = chart::width(chart);
-    // trees of no row would never fill the page
+    // trees of no row would never fill the page, and a path has at most 31
     if width == 0 {
         return PageAnswer::Trees {
             count: 0,
             more: false,
         };
     }
-    let mut next = behind(chart, start);
+    if 31 < width {
+        return PageAnswer::Trees {
+            count: 0,
+            more: false,
+        };
+    }
+    let path = trace::trace(chart, start);
+    let mut entered = path.nodes;
+    let mut pivots = path.pivots;
+    let mut rows = path.rows;
+    let mut sets = [0u64; 32];
+    let n = path.length() + 1;
+    trail::gather(&entered[..n], &mut sets);
+    let mut turn = first_turn(chart, &entered, &pivots, &sets, start);
     let mut at: usize = 0;
     let mut count: usize = 0;
-    while next.some {
+    while turn.some {
         if page.len() - at < width {
             return PageAnswer::Trees {
                 count: count,
                 more: true,
             };
         }
+        trail::take_turn(
+            chart,
+            &mut entered,
+            &mut pivots,
+            &mut sets,
+            &mut rows[..width],
+            turn,
+        );
         let from = at;
-        put(page, from, next.path);
+        copies::copy_rows(page, from, &rows[..width], width);
         at += width;
         count += 1;
         let last = &page[from..at];
-        next = following(chart, last);
+        turn = trail::next_turn(chart, &entered, &pivots, &sets, last);
     }
     PageAnswer::Trees {
         count: count,

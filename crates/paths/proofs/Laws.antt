@@ -106,6 +106,9 @@ module _ (p : Path) (nodes : length (p .nodes) ≡ 32) (rows : length (p .rows) 
   pub rows-are : map (λ (k : Key). k .row) (keysOf p) ≡ take (lengthOf p) (p .rows)
   rows-are = columns .2
 
+  pub pivots-are : map (λ (k : Key). k .place) (keysOf p) ≡ take (lengthOf p) (p .pivots)
+  pivots-are = columns .0
+
   pub keys-length : length (keysOf p) ≡ lengthOf p
   keys-length = omega (arith, simp (length-map, length-take) at (ap length rows-are))
 

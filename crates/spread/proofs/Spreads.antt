@@ -1,25 +1,25 @@
 -- What is computed with words is what the graph says: the nodes that legal steps enter (`seeds-legal`), what a state
--- reaches (`spread-reaches`), and whether it is live (`spread-live`).
-use mathlib.Core.Path.{_∙_, _≡_, ap, refl, subst, sym}
+-- reaches (`spread-reaches`).
+use mathlib.Core.Path.{_∙_, _≡_, ap, refl, sym}
 use mathlib.Core.Logic.{_↔_, _⊎_, inl, inr, ⊎-elim}
 use mathlib.Core.List.{List}
 use Prim.Native.Nat.{_+_, _-_, _<_, _^_, _≤_, suc, zero, ℕ}
 use native.Mathlib.Decide.{ℕ-discrete}
 use native.Mathlib.Omega.{arith}
-use lib.Dec.{T, eqb, eqb→eq, ltb, ltb→lt, lt→ltb}
+use lib.Dec.{T, eqb, ltb, ltb→lt, lt→ltb}
 use lib.ListN.{getD, length}
 use borrow.Author.Tests.{lt-ltb}
 use Rattle.lists.proofs.Ascending.{getD-mem}
 use Rattle.lists.proofs.Members.{_∈_, range-in, range-out}
-use Rattle.lists.proofs.Tests.{T-both, T-either, T-same, T-true, eq→eqb, pick-elim}
+use Rattle.lists.proofs.Tests.{T-both, T-either, T-true, pick-elim}
 use Rattle.graph.specs.Graph.{Graph, rowNumbers}
 use Rattle.graph.specs.Paths.{Key}
-use Rattle.graph.proofs.Growth.{Joins, Legal, Live, Reaches, State, direct, onward}
+use Rattle.graph.proofs.Growth.{Joins, Legal, Reaches, State, direct, onward}
 use Rattle.graph.proofs.Keys.{Lex, further, level}
 use Rattle.graph.proofs.Places.{node-at, place-at, place-below}
 use Rattle.graph.proofs.Walk.{reached-in}
 use Rattle.words.specs.Words.{has}
-use Rattle.words.proofs.Words.{has-above, has-and, has-or, has-zero, words-below, words-same}
+use Rattle.words.proofs.Words.{has-above, has-and, has-or, has-zero, words-below}
 use Rattle.spread.specs.Spread.{bring, openAt, openFrom, seedsOf, spreadOf, spreadUpTo, sweepFrom, sweepOf}
 use Rattle.chart.proofs.Charts.{Charted, Ready}
 use Rattle.spread.proofs.Sweeps.{spread-fixed}
@@ -215,11 +215,3 @@ module _ (g : Graph) (nb : List ℕ) (limit : ℕ) (c : Charted g nb limit) (s :
           let n = reached-out g (rowNumbers g) s (out u x) .0 in
           let some : 1 ≤ u = elim (ℕ-discrete u 0) [ yes e ↦ absurd (c .formed .noZero (rw e at n)) | no d ↦ omega arith ] in
           spread-closed nb fresh limit seeds u v fresh-lt seeds-lt some (c .low u n) x (row-joins u v r n m i j) (ready .unentered v .1 (m, f)))
-
-  pub spread-live : T (eqb (spreadOf nb limit fresh (seedsOf nb fresh (s .entered) (s .place) (s .node))) fresh) ↔ Live g (rowNumbers g) s
-  spread-live = (
-    λ t v m f. spread-reaches v .0 (subst (λ (w : ℕ). T (has w v)) (sym (eqb→eq _ _ t)) (ready .unentered v .1 (m, f))),
-    λ live. eq→eqb _ _ (words-same _ _ (λ v. T-same _ _
-        (λ t. ready .unentered v .1 (reached-out g (rowNumbers g) s (spread-reaches v .0 t)))
-        (λ t. let (m, f) = ready .unentered v .0 t in spread-reaches v .1 (live v m f)))),
-  )

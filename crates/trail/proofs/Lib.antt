@@ -1,0 +1,4 @@
+pub mod Sets
+pub mod Growing
+pub mod Turns
+pub mod Back
