@@ -2,7 +2,9 @@
 -- rows (`closing-gains`, `closing-within`), and goes by the rows, not by their sequence (`closing-same`).
 use mathlib.Core.Path.{_∙_, _≡_, ap, ap₂, refl, sym}
 use mathlib.Core.Logic.{_⊎_, inl, inr, ⊎-elim}
-use mathlib.Core.List.{List, [], _++_, _∷_, Memᴰ·append-left as append-left, List·Memᴰ·head as here, map, map-append, List·Memᴰ·cases-cons as mem-cases, Memᴰ·cast as mem-cast, List·Memᴰ·not-nil as mem-nil, List·Memᴰ·tail as there}
+use mathlib.Core.List.{List, [], _++_, _∷_, map, map-append}
+use mathlib.Core.List.{Memᴰ·append-left as append-left, List·Memᴰ·head as here, List·Memᴰ·cases-cons as mem-cases}
+use mathlib.Core.List.{Memᴰ·cast as mem-cast, List·Memᴰ·not-nil as mem-nil, List·Memᴰ·tail as there}
 use Prim.Native.Nat.{_+_, _≤_, ℕ}
 use native.Mathlib.Decide.{ℕ-discrete}
 use native.Mathlib.Omega.{arith}

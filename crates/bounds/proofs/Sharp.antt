@@ -1,5 +1,5 @@
--- The sharper bound (`sharp-bound`): a missing node counts the least that a row that may still enter it adds, from a node that is not entered
--- yet, or by a step that comes after the last step of the prefix.
+-- The rows that may still come (`allowed`): a later step goes by a row from a node that is not entered yet, or by one that comes after the last step of the
+-- prefix (`later-allowed`).
 use mathlib.Core.Path.{_≡_, refl, subst, sym}
 use mathlib.Core.Logic.{inl, inr}
 use mathlib.Core.List.{List, [], _∷_, Memᴰ·map as map-in}
@@ -11,17 +11,13 @@ use Rattle.lists.proofs.Distinct.{mem?}
 use Rattle.lists.proofs.Members.{_∈_, member-out}
 use Rattle.lists.proofs.Tests.{T-both, T-either, eq→eqb}
 use Rattle.graph.specs.Graph.{Graph, firstEnd, rowNumbers, secondEnd}
-use Rattle.graph.specs.Paths.{Key, placeOf, steps, trees}
+use Rattle.graph.specs.Paths.{Key, placeOf}
 use Rattle.graph.proofs.Growth.{Completion, Joins, State, after, back, forth, rowsOf, start}
 use Rattle.graph.proofs.Keys.{Lex, follows-in}
-use Rattle.graph.proofs.Trees.{trees-mem}
 use Rattle.graph.proofs.Unique.{later-step}
 use Rattle.graph.proofs.Walk.{stateAfter}
-use Rattle.costs.specs.Costs.{costOf, noneLarger}
-use Rattle.costs.specs.Network.{Network, graphOf}
-use Rattle.bounds.specs.Bounds.{allowed, begins, enteredBy, gainAt, keysOr, lastKey, leastAllowed, noKey, opens, sharpBound}
-use Rattle.bounds.proofs.Lower.{bound-with, branch-later, branched, least-below, tree-formed}
-use Rattle.bounds.proofs.Missing.{entered-is, rows-map, step-legal}
+use Rattle.bounds.specs.Bounds.{allowed, lastKey, noKey, opens}
+use Rattle.bounds.proofs.Missing.{rows-map, step-legal}
 
 -- the state's place and node are those of the last step
 pub state-last : (s : State) (k : Key) (ks : List Key) → s .place ≡ k .place → s .node ≡ k .node
@@ -60,14 +56,3 @@ later-allowed g js ks k c i =
     go u j (yes m) =
         let (e, f) = state-last (start g) noKey js refl refl in
         opens-later (s .entered) (lastKey noKey js) u (k .node) (rw (e, f) at (later-step g (rowNumbers g) s ks c mine j m .0))
-
--- SHARP BOUND: no tree of the branch is below it in any criterion
-pub sharp-bound : (w : Network) (prefix p : List ℕ) → p ∈ trees (graphOf w) → T (begins prefix p) → T (noneLarger (sharpBound w prefix) (costOf w p))
-sharp-bound w prefix p m t =
-    let minimal = trees-mem (graphOf w) p .0 m .0 in
-    let wf = tree-formed w p minimal in
-    let b = branched (graphOf w) wf prefix p minimal t in
-    bound-with w (leastAllowed w (enteredBy (graphOf w) prefix) (lastKey noKey (keysOr (steps (graphOf w) prefix)))) prefix p wf b
-    (λ kind c k i. least-below w (gainAt kind w c) (allowed (graphOf w) (enteredBy (graphOf w) prefix) (lastKey noKey (keysOr (steps (graphOf w) prefix))) (k .node))
-    (step-legal (graphOf w) (rowNumbers (graphOf w)) (stateAfter (start (graphOf w)) (b .done)) (b .later) (branch-later b) i .1 .usable)
-    (rw (entered-is (graphOf w) prefix (b .done) (b .made), b .made) (later-allowed (graphOf w) (b .done) (b .later) k (branch-later b) i)))

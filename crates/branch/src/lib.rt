@@ -159,7 +159,10 @@ pub fn opens(
     path: Path,
     len: usize,
 ) -> bool
-    ensures { λ r. ⌜ ((musts : List ℕ) → Asked (now (firsts .entry)) (now (seconds .entry)) (now (heads .entry)) limit k limits path musts → Tells (graphIn (now (firsts .entry)) (now (seconds .entry)) limit) (tableOf kinds k (now (costs .entry)) (now (leads .entry))) musts (take k limits) (take len (rowsIn path)) r) ⌝ }
+    ensures { λ r. ⌜ ((musts : List ℕ)
+        → Asked (now (firsts .entry)) (now (seconds .entry)) (now (heads .entry)) limit k limits path musts
+        → Tells (graphIn (now (firsts .entry)) (now (seconds .entry)) limit)
+        (tableOf kinds k (now (costs .entry)) (now (leads .entry))) musts (take k limits) (take len (rowsIn path)) r) ⌝ }
 {
     let rows = standing(heads, path, len);
     let free = coming(firsts, seconds, heads, limit, path.shortened(len));

@@ -16,8 +16,9 @@ use Rattle.graph.proofs.Growth.{Joins, back, forth}
 use Rattle.costs.specs.Layouts.{isBarred, isMust, mustEnd, openEnd}
 use Rattle.costs.specs.Network.{Row, State, barred, must, «open»}
 use Rattle.words.specs.Words.{has}
-use Rattle.chart.specs.Chart.{claimedBy, endBy, enteredBy, firstPart, linkedBy, nextPart, pairAt, rowBy, rowWord, secondPart, stateBy}
-use Rattle.chart.proofs.Tables.{Ends, claimed-ends, claimed-length, claimed-near, claimed-old, claimed-other, linked-length, linked-must, linked-near, linked-size, linked-word, linked-words, pair-here, pair-other, word-drawn-first, word-drawn-second, word-first, word-next, word-second, word-state}
+use Rattle.chart.specs.Chart.{bareRow, claimedBy, endBy, enteredBy, firstPart, linkedBy, nextPart, pairAt, rowBy, rowWord, secondPart}
+use Rattle.chart.proofs.Tables.{Ends, claimed-ends, claimed-length, claimed-near, claimed-old, claimed-other, linked-length, linked-must, linked-near, linked-size}
+use Rattle.chart.proofs.Tables.{linked-word, linked-words, pair-here, pair-other, word-drawn-first, word-drawn-second, word-first, word-next, word-second, word-state}
 
 -- what can be a node
 abbrev pub Nodal : ℕ → Type 0
@@ -92,7 +93,7 @@ abbrev pub bare : Row → Row
 bare row = record { firstEnd = row .firstEnd; secondEnd = row .secondEnd; street = 0; state = row .state; costs = [] }
 
 word-row : (a b next u v state : ℕ) → a ≤ 32 → b ≤ 32 → next < 65536 → u ≤ 32 → v ≤ 32
-    → rowBy (rowWord a b next u v state) ≡ record { firstEnd = u; secondEnd = v; street = 0; state = stateBy state; costs = [] }
+    → rowBy (rowWord a b next u v state) ≡ bareRow u v state
 word-row a b next u v state p q l m n =
     rw (word-drawn-first a b next u v state p q l m n, word-drawn-second a b next u v state p q l m n, word-state a b next u v state p q l m n)
 

@@ -22,7 +22,8 @@ use Rattle.costs.specs.Layouts.{mustEnd, openEnd}
 use Rattle.costs.specs.Network.{Row, noRow}
 use Rattle.words.specs.Words.{has}
 use Rattle.words.proofs.Words.{has-zero}
-use Rattle.chart.specs.Chart.{Blank, begunBy, countIn, enteredBy, enteredDown, firstsIn, graphIn, headIn, limitIn, nearIn, nextIn, nodesIn, pairAt, plantIn, rowBy, rowsIn, secondsIn, widthIn, wordsIn}
+use Rattle.chart.specs.Chart.{Blank, begunBy, countIn, enteredBy, enteredDown, firstsIn, graphIn, headIn, limitIn}
+use Rattle.chart.specs.Chart.{nearIn, nextIn, nodesIn, pairAt, plantIn, rowBy, rowsIn, secondsIn, widthIn, wordsIn}
 use Rattle.chart.proofs.Charts.{Charted, Charts, NextRow, mustGraphIn}
 use Rattle.chart.proofs.Entered.{Nodal, Stated, Worded, bare, entered, entered-row}
 use Rattle.chart.proofs.Laws.{first-at, near-any, near-must, row-here, rows-length, second-at, word-here, words-length}

@@ -14,7 +14,7 @@ use Rattle.graph.specs.Graph.{Graph}
 use Rattle.costs.specs.Layouts.{isBarred, isMust}
 use Rattle.costs.specs.Network as net
 use Rattle.costs.specs.Network.{Row, noRow}
-use Rattle.network_file.specs.File.{networkOf, sizesOf}
+use Rattle.network_file.specs.File.{networkOf, rowStart, sizesOf}
 use Rattle.states.specs.States.{mustsOf, treesWith}
 use Rattle.words.specs.Words.{bit, has, upTo}
 
@@ -94,8 +94,11 @@ nextIn c r = nextPart (getD (wordsIn c) r 0)
 abbrev pub stateBy : ℕ → net.State
 stateBy s = pick (eqb s 2) net.barred (pick (eqb s 1) net.must net.«open»)
 
+abbrev pub bareRow : ℕ → ℕ → ℕ → Row
+bareRow a b s = record { firstEnd = a; secondEnd = b; street = 0; state = stateBy s; costs = [] }
+
 abbrev pub rowBy : ℕ → Row
-rowBy w = record { firstEnd = drawnFirstPart w; secondEnd = drawnSecondPart w; street = 0; state = stateBy (statePart w); costs = [] }
+rowBy w = bareRow (drawnFirstPart w) (drawnSecondPart w) (statePart w)
 
 unfoldable pub rowsIn : List ℕ → List Row
 unfolding wordsIn
@@ -154,6 +157,13 @@ unfoldable pub enteredDown : List Row → ℕ → List ℕ → List ℕ
 unfolding enteredBy
 enteredDown rows zero c = c
 enteredDown rows (suc r) c = enteredDown rows r (enteredBy c r (getD rows r noRow))
+
+-- a file has its first r rows, which have a place in a chart and end at a place of the file
+pub record HasRows (f : List ℕ) (r end : ℕ) : Type 0 where
+  pub within : r ≤ sizesOf f .m
+  pub few : r ≤ 256
+  pub start : end ≡ rowStart f r
+  pub long : end ≤ length f
 
 -- of a network file: the nodes 1 to n with the plant 1, and as many rows as there are places
 unfoldable pub fileChartOn : List ℕ → List ℕ → List ℕ

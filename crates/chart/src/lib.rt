@@ -6,8 +6,10 @@ ghost use Prim.Native.Nat.{_+_, _-_, _≤_, min};
 ghost use lib.ListN.{getD};
 ghost use Rattle.costs.specs.Network.{noRow};
 ghost use Rattle.fields.specs.Fields.{rowWith, stateIn};
+ghost use Rattle.network_file.specs.File.{networkOf};
 ghost use Rattle.states.specs.States.{mustRow};
-ghost use Rattle.chart.specs.Chart.{begunBy, claimedBy, countIn, endBy, enteredBy, fileChartOn, firstsIn, headIn, joinedBy, limitIn, linkedBy, nearIn, nextIn, nodesIn, plantIn, rowWord, rowsIn, secondsIn, stateBy, widthIn, wordsIn};
+ghost use Rattle.chart.specs.Chart.{HasRows, bareRow, begunBy, claimedBy, endBy, enteredBy, enteredDown, fileChartOn, joinedBy, linkedBy, rowWord, stateBy};
+ghost use Rattle.chart.specs.Chart.{countIn, firstsIn, headIn, limitIn, nearIn, nextIn, nodesIn, plantIn, rowsIn, secondsIn, widthIn, wordsIn};
 use fields::Row;
 use fields::State;
 
@@ -222,32 +224,49 @@ fn claim(chart: &mut [u64; LENGTH], a: u8, b: u8)
     join(chart, 38, 0, b);
 }
 
-/// Enters a row by its ends and its state; a row that has no place in a chart is left out.
-pub fn enter(chart: &mut [u64; LENGTH], r: usize, row: Row)
-    ensures { λ _. ⌜ now (chart .exit) ≡ enteredBy (now (chart .entry)) r (rowWith row []) ⌝ }
+// Enters a row by its ends and the number of its state; one whose ends have no place in a chart is left out.
+fn enter_by(chart: &mut [u64; LENGTH], r: usize, a: u8, b: u8, state: u8)
+    requires { ⌜ r ≤ 255 ⌝ }
+    ensures { λ _. ⌜ now (chart .exit) ≡ enteredBy (now (chart .entry)) r (bareRow a b state) ⌝ }
 {
-    let a = row.first;
-    let b = row.second;
-    if 255 < r {
-        return;
-    }
     if 32 < a {
         return;
     }
     if 32 < b {
         return;
     }
-    let state = row.state;
-    match state {
-        State::Open => link(chart, r, a, b, 0),
-        State::Must => {
-            link(chart, r, a, b, 1);
-            claim(chart, a, b);
-        }
-        State::Barred => {
-            chart[1160 + r] = row_word(0, 0, 0, a, b, 2);
-        }
+    if state == 2 {
+        chart[1160 + r] = row_word(0, 0, 0, a, b, 2);
+        return;
     }
+    if state == 1 {
+        link(chart, r, a, b, 1);
+        claim(chart, a, b);
+        return;
+    }
+    link(chart, r, a, b, 0);
+}
+
+// The number that stands for a state in a row's word.
+fn number_of(state: State) -> u8
+    ensures { λ r. ⌜ stateBy r ≡ stateIn state ⌝ }
+{
+    match state {
+        State::Open => 0,
+        State::Must => 1,
+        State::Barred => 2,
+    }
+}
+
+/// Enters a row by its ends and its state; a row that has no place in a chart is left out.
+pub fn enter(chart: &mut [u64; LENGTH], r: usize, row: Row)
+    ensures { λ _. ⌜ now (chart .exit) ≡ enteredBy (now (chart .entry)) r (rowWith row []) ⌝ }
+{
+    if 255 < r {
+        return;
+    }
+    let state = row.state;
+    enter_by(chart, r, row.first, row.second, number_of(state));
 }
 
 // How many rows a tree of n nodes has; 0 where there is no node.
@@ -255,6 +274,46 @@ fn tree_rows(n: u8) -> usize
     ensures { λ r. ⌜ r ≡ n - 1 ⌝ }
 {
     if n == 0 { 0 } else { n as usize - 1 }
+}
+
+// Enters the rows below `count` of a file that has them all, from the last down; they end at `end`, and each is read in place.
+fn enter_whole(file: &[u8], chart: &mut [u64; LENGTH], count: usize, end: usize)
+    requires { ⌜ HasRows (now file) count end ⌝ }
+    ensures { λ _. ⌜ now (chart .exit) ≡ enteredDown (networkOf (now (file .entry)) .rows) count (now (chart .entry)) ⌝ }
+{
+    let two = file[0] == 2;
+    let step = fields::row_bytes(file);
+    let mut r = count;
+    let mut at = end;
+    while 0 < r {
+        r -= 1;
+        at -= step;
+        let number = if two { file[at + 4] } else { 0 };
+        let first = file[at];
+        let second = file[at + 1];
+        let named = state_by(number as u64);
+        let row = Row {
+            first: first,
+            second: second,
+            street: 0,
+            state: named,
+        };
+        // taken apart here, so that no row goes through memory
+        let state = row.state;
+        enter_by(chart, r, row.first, row.second, number_of(state));
+    }
+}
+
+// As `enter_whole`, row by row, also of a file that is cut short.
+fn enter_cut(file: &[u8], chart: &mut [u64; LENGTH], count: usize)
+    ensures { λ _. ⌜ now (chart .exit) ≡ enteredDown (networkOf (now (file .entry)) .rows) count (now (chart .entry)) ⌝ }
+{
+    let mut r = count;
+    while 0 < r {
+        r -= 1;
+        let row = fields::row_at(file, r);
+        enter(chart, r, row);
+    }
 }
 
 /// Makes the chart of a network file, of one that is empty: nodes 1 to n, the plant 1, and its rows, from the last down.
@@ -265,10 +324,12 @@ pub fn of_file(file: &[u8], chart: &mut [u64; LENGTH])
     let n = header.n;
     let m = header.m as usize;
     begin(chart, n, 1, words::up_to(n), tree_rows(n), m);
-    let mut r = placed(m);
-    while 0 < r {
-        r -= 1;
-        let row = fields::row_at(file, r);
-        enter(chart, r, row);
+    let count = placed(m);
+    let end = 9 + header.k as usize + count * fields::row_bytes(file);
+    // where the rows are all there one test of the length does
+    if end <= file.len() {
+        enter_whole(file, chart, count, end);
+    } else {
+        enter_cut(file, chart, count);
     }
 }

@@ -4,7 +4,9 @@ use mathlib.Core.Path.{_∙_, _≡_, ap, refl, subst, sym}
 use mathlib.Core.Logic.{_⊎_, inl, inr, ⊎-elim}
 use mathlib.Core.Bool.{not}
 use mathlib.Core.Option.{Option, some}
-use mathlib.Core.List.{List, [], _++_, _∷_, Memᴰ·append-left as append-left, List·Memᴰ·head as here, List·Memᴰ·cases-cons as mem-cases, Memᴰ·cast as mem-cast, List·Memᴰ·not-nil as mem-nil, List·Memᴰ·tail as there}
+use mathlib.Core.List.{List, [], _++_, _∷_}
+use mathlib.Core.List.{Memᴰ·append-left as append-left, List·Memᴰ·head as here, List·Memᴰ·cases-cons as mem-cases}
+use mathlib.Core.List.{Memᴰ·cast as mem-cast, List·Memᴰ·not-nil as mem-nil, List·Memᴰ·tail as there}
 use Prim.Native.Nat.{ℕ}
 use native.Mathlib.Decide.{ℕ-discrete}
 use native.Mathlib.Omega.{arith}
@@ -81,8 +83,10 @@ module _ (g : Graph) (wf : WellFormed g) (js : List Key) (a : Legals g (rowNumbe
   steps-on r u v c o m n =
       let (x, new, h) = comes r c in
       ⊎-elim
-      (λ b. let (e, w) = T-both (eqb (secondEnd g r) x) (opens (s .entered) (lastKey noKey js) (firstEnd g r) x) .0 b in side (secondEnd g r) (firstEnd g r) x new (eqb→eq (secondEnd g r) x e) w (second o))
-      (λ b. let (e, w) = T-both (eqb (firstEnd g r) x) (opens (s .entered) (lastKey noKey js) (secondEnd g r) x) .0 b in side (firstEnd g r) (secondEnd g r) x new (eqb→eq (firstEnd g r) x e) w (first o))
+      (λ b. let (e, w) = T-both (eqb (secondEnd g r) x) (opens (s .entered) (lastKey noKey js) (firstEnd g r) x) .0 b in
+      side (secondEnd g r) (firstEnd g r) x new (eqb→eq (secondEnd g r) x e) w (second o))
+      (λ b. let (e, w) = T-both (eqb (firstEnd g r) x) (opens (s .entered) (lastKey noKey js) (secondEnd g r) x) .0 b in
+      side (firstEnd g r) (secondEnd g r) x new (eqb→eq (firstEnd g r) x e) w (first o))
       (T-either (both (eqb (secondEnd g r) x) (opens (s .entered) (lastKey noKey js) (firstEnd g r) x)) (both (eqb (firstEnd g r) x) (opens (s .entered) (lastKey noKey js) (secondEnd g r) x)) .0 h)
     where
       -- the ends a (to be entered) and b of the row

@@ -12,7 +12,7 @@ use Rattle.lists.proofs.Distinct.{Distinct, mem?}
 use Rattle.lists.proofs.Members.{_∈_, filter-keep, filter-none, filter-skip, member-in, member-out}
 use Rattle.lists.proofs.Tests.{T-either, T-false, eq→eqb, pick-true}
 use Rattle.costs.specs.Costs.{closingCost, costAt, streetCost, streetsOf}
-use Rattle.costs.specs.Network.{Network, closing}
+use Rattle.costs.specs.Network.{Network}
 use Rattle.bounds.specs.Bounds.{excessAt}
 use Rattle.bounds.proofs.Closing.{one-off, one-on, streetOf, streets-named}
 

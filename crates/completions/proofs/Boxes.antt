@@ -1,5 +1,5 @@
 -- Boxes of vectors: component by component (`inside-cons`, `inside-at`), with a limit set lower (`inside-set`, `inside-unset`), what is not larger than a
--- vector of the box (`inside-down`), larger limits (`inside-up`), and weighted sums of the components (`inside-dot`).
+-- vector of the box (`inside-down`), and weighted sums of the components (`inside-dot`).
 use mathlib.Core.Path.{_≡_, refl}
 use mathlib.Core.Logic.{_↔_}
 use mathlib.Core.List.{List, [], _∷_, map}
@@ -85,18 +85,6 @@ inside-down (z ∷ limits) (x ∷ l) (y ∷ v) s t =
     let (a, b) = larger-out x y l v s in
     let (c, d) = inside-cons z y limits v .0 t in
     inside-cons z x limits l .1 (omega arith, inside-down limits l v b d)
-
--- larger limits hold as much
-pub inside-up : (b a v : List ℕ) → T (noneLarger b a) → T (inside b v) → T (inside a v)
-unfolding inside noneLarger
-inside-up [] [] v s t = t
-inside-up [] (y ∷ a) v s t = absurd s
-inside-up (x ∷ b) [] v s t = absurd s
-inside-up (x ∷ b) (y ∷ a) [] s t = absurd t
-inside-up (x ∷ b) (y ∷ a) (z ∷ v) s t =
-    let (h, k) = larger-out x y b a s in
-    let (l, i) = inside-cons x z b v .0 t in
-    inside-cons y z a v .1 (omega arith, inside-up b a v k i)
 
 -- no weighted sum is larger than at the limits less one
 pub inside-dot : (factors limits v : List ℕ) → T (inside limits v) → dot factors v ≤ dot factors (map pred limits)

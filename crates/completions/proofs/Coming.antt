@@ -3,7 +3,8 @@
 use mathlib.Core.Path.{subst, sym}
 use mathlib.Core.Logic.{⊎-elim}
 use mathlib.Core.Bool.{not}
-use mathlib.Core.List.{List, [], _++_, _∷_, Memᴰ·append-right as append-right, Memᴰ·map as map-in, Memᴰ·of-map as map-out, List·Memᴰ·cases-cons as mem-cases, Memᴰ·cast as mem-cast, List·Memᴰ·not-nil as mem-nil}
+use mathlib.Core.List.{List, [], _++_, _∷_}
+use mathlib.Core.List.{Memᴰ·append-right as append-right, Memᴰ·map as map-in, Memᴰ·of-map as map-out, List·Memᴰ·cases-cons as mem-cases, Memᴰ·cast as mem-cast, List·Memᴰ·not-nil as mem-nil}
 use Prim.Native.Nat.{ℕ}
 use lib.Dec.{T, not-T}
 use Rattle.lists.specs.Lists.{any, member}

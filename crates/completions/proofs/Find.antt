@@ -6,7 +6,9 @@
 use mathlib.Core.Path.{_∙_, _≡_, ap, subst, sym}
 use mathlib.Core.Logic.{_↔_, ⊎-elim}
 use mathlib.Core.Option.{Option, none, some}
-use mathlib.Core.List.{List, [], _++_, _∷_, List·Memᴰ·append-cases as append-cases, Memᴰ·append-left as append-left, Memᴰ·append-right as append-right, List·Memᴰ·head as here, List·Memᴰ·cases-cons as mem-cases, Memᴰ·cast as mem-cast, List·Memᴰ·tail as there}
+use mathlib.Core.List.{List, [], _++_, _∷_}
+use mathlib.Core.List.{List·Memᴰ·append-cases as append-cases, Memᴰ·append-left as append-left, Memᴰ·append-right as append-right}
+use mathlib.Core.List.{List·Memᴰ·head as here, List·Memᴰ·cases-cons as mem-cases, Memᴰ·cast as mem-cast, List·Memᴰ·tail as there}
 use Prim.Native.Nat.{_+_, _≤_, suc, ℕ}
 use native.Mathlib.Decide.{ℕ-discrete}
 use native.Mathlib.Omega.{arith}
@@ -28,7 +30,6 @@ use Rattle.bounds.proofs.Closing.{closing-within}
 use Rattle.operations.proofs.Costs.{cost-same}
 use Rattle.completions.specs.Boxes.{inside}
 use Rattle.completions.specs.Greedy.{greedy}
-use Rattle.completions.specs.Search.{orElse}
 use Rattle.completions.proofs.Boxes.{inside-down}
 use Rattle.completions.proofs.Coming.{append-apart}
 use Rattle.completions.proofs.Greedy.{Rising}
@@ -127,12 +128,6 @@ module _ (g : Graph) (w : Network) (limits : List ℕ) where
         rest = λ r i k. left r .1 (z .rest r i k, λ e. k (here e));
       })
     ]
-
-    pub branches : (a b : Option (List ℕ)) → at ∈ us → ¬ (at ∈ inc) → Answers g w limits inc less a → Answers g w limits (at ∷ inc) less b
-        → Answers g w limits inc us (orElse a b)
-    branches (some p) b i n x y = branch-out p x
-    branches none (some p) i n x y = branch-in p i y
-    branches none none i n x y = branch-none n x y
 
 -- Choices from usable rows
 

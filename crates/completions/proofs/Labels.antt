@@ -4,7 +4,9 @@
 use mathlib.Core.Path.{_∙_, _≡_, ap, refl, subst, sym}
 use mathlib.Core.Logic.{_↔_, ⊎-elim}
 use mathlib.Core.Bool.{Bool}
-use mathlib.Core.List.{List, [], _++_, _∷_, append-nil, List·Memᴰ·append-cases as append-cases, Memᴰ·append-left as append-left, Memᴰ·append-right as append-right, List·Memᴰ·head as here, List·Memᴰ·cases-cons as mem-cases, List·Memᴰ·tail as there}
+use mathlib.Core.List.{List, [], _++_, _∷_, append-nil}
+use mathlib.Core.List.{List·Memᴰ·append-cases as append-cases, Memᴰ·append-left as append-left, Memᴰ·append-right as append-right}
+use mathlib.Core.List.{List·Memᴰ·head as here, List·Memᴰ·cases-cons as mem-cases, List·Memᴰ·tail as there}
 use Prim.Native.Nat.{_<_, _+_, suc, zero, ℕ}
 use native.Mathlib.Decide.{ℕ-discrete}
 use native.Mathlib.Omega.{arith}
@@ -151,12 +153,16 @@ pub few-greedy : (g : Graph) → WellFormed g → (rs : List ℕ) (n : ℕ) (ps 
 unfolding chooseFew greedy
 few-greedy g wf [] n ps labels forest e h l = refl
 few-greedy g wf (r ∷ rs) zero ps labels forest e h l = sym (greedy-full g wf (r ∷ rs) ps forest (omega (arith, e)) l)
-few-greedy g wf (r ∷ rs) (suc n) ps labels forest e h l = same-choice g ps labels r rs h (l r (here refl)) (chooseFew (g .firstEnds) (g .secondEnds) (suc n) labels rs) (chooseFew (g .firstEnds) (g .secondEnds) n (joinedBy (g .firstEnds) (g .secondEnds) labels r) rs)
+few-greedy g wf (r ∷ rs) (suc n) ps labels forest e h l = same-choice g ps labels r rs h (l r (here refl))
+    (chooseFew (g .firstEnds) (g .secondEnds) (suc n) labels rs)
+    (chooseFew (g .firstEnds) (g .secondEnds) n (joinedBy (g .firstEnds) (g .secondEnds) labels r) rs)
     (few-greedy g wf rs (suc n) ps labels forest e h (λ q m. l q (there m)))
-    (λ k. few-greedy g wf rs n (r ∷ ps) (joinedBy (g .firstEnds) (g .secondEnds) labels r) (forest-add forest (l r (here refl)) k) (omega (arith, e)) (labelled-join g ps labels h r (l r (here refl))) (λ q m. l q (there m)))
+    (λ k. few-greedy g wf rs n (r ∷ ps) (joinedBy (g .firstEnds) (g .secondEnds) labels r) (forest-add forest (l r (here refl)) k) (omega (arith, e))
+    (labelled-join g ps labels h r (l r (here refl))) (λ q m. l q (there m)))
   where
     same-choice : (g : Graph) (ps labels : List ℕ) (r : ℕ) (rs : List ℕ) → Labelled g ps labels → Lies g r → (a b : List ℕ) → a ≡ greedy g ps rs
-        → ((¬ Joined g ps (firstEnd g r) (secondEnd g r)) → b ≡ greedy g (r ∷ ps) rs) → pick (sameLabel (g .firstEnds) (g .secondEnds) labels r) a (r ∷ b) ≡ pick (closes g ps r) (greedy g ps rs) (r ∷ greedy g (r ∷ ps) rs)
+        → ((¬ Joined g ps (firstEnd g r) (secondEnd g r)) → b ≡ greedy g (r ∷ ps) rs)
+        → pick (sameLabel (g .firstEnds) (g .secondEnds) labels r) a (r ∷ b) ≡ pick (closes g ps r) (greedy g ps rs) (r ∷ greedy g (r ∷ ps) rs)
     same-choice g ps labels r rs h x a b d k = pick-elim (λ (y : List ℕ). y ≡ pick (closes g ps r) (greedy g ps rs) (r ∷ greedy g (r ∷ ps) rs)) (sameLabel (g .firstEnds) (g .secondEnds) labels r)
         (λ t. d ∙ sym (pick-true (closes g ps r) _ _ (closes-joined g ps r x .1 (h .joined (firstEnd g r) (secondEnd g r) (x .first) (x .second) (eqb→eq _ _ t)))))
         (λ n. let out : ¬ Joined g ps (firstEnd g r) (secondEnd g r) = λ j. n (eq→eqb _ _ (h .alike (firstEnd g r) (secondEnd g r) j)) in

@@ -1,16 +1,15 @@
--- `Lighter w rs ls`: the rows rs are matched with those of ls, each with one that weighs no less. So they are as many (`lighter-length`), weigh no
--- more together (`lighter-weight`), and the heaviest of them weighs no more (`lighter-largest`).
+-- `Lighter w rs ls`: the rows rs are matched with those of ls, each with one that weighs no less. So they are as many (`lighter-length`) and weigh no
+-- more together (`lighter-weight`).
 use mathlib.Core.Path.{_≡_, refl}
-use mathlib.Core.List.{List, [], _∷_, map, Memᴰ·map as map-in}
+use mathlib.Core.List.{List, [], _∷_}
 use Prim.Native.Nat.{_≤_, ℕ}
 use native.Mathlib.Omega.{arith}
 use lib.ListN.{length}
-use Rattle.lists.specs.Lists.{largest, sum}
+use Rattle.lists.specs.Lists.{sum}
 use Rattle.lists.proofs.Distinct.{Distinct}
 use Rattle.lists.proofs.Members.{_∈_}
-use Rattle.lists.proofs.Sums.{largest-in, largest-within}
 use Rattle.forests.specs.Forests.{cut, weight}
-use Rattle.forests.proofs.Cuts.{cut-distinct, cut-length, cut-old}
+use Rattle.forests.proofs.Cuts.{cut-distinct, cut-length}
 use Rattle.forests.proofs.Minimum.{weight-cut}
 
 abbrev pub Lighter : (ℕ → ℕ) → List ℕ → List ℕ → Type 0
@@ -26,13 +25,3 @@ module _ (w : ℕ → ℕ) where
   unfolding sum
   lighter-weight [] ls d h = omega arith
   lighter-weight (r ∷ rs) ls d (f, i, l, h) = omega (arith, weight-cut w f ls d i, lighter-weight rs (cut f ls) (cut-distinct f ls d) h)
-
-  pub lighter-largest : (rs ls : List ℕ) → Distinct ls → Lighter w rs ls → largest (map w rs) ≤ largest (map w ls)
-  unfolding largest
-  lighter-largest [] ls d h = omega arith
-  lighter-largest (r ∷ rs) ls d (f, i, l, h) = omega (
-    arith,
-    largest-in (map-in w i),
-    largest-within w (cut f ls) (cut-old f ls),
-    lighter-largest rs (cut f ls) (cut-distinct f ls d) h,
-  )

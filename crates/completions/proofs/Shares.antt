@@ -3,7 +3,8 @@
 -- Fair are shares that divide a row's days beyond the prefix by at least the number of candidates of its street that have one (`even-fair`).
 use mathlib.Core.Path.{_∙_, _≡_, ap, refl, sym}
 use mathlib.Core.Bool.{Bool, false, not, true}
-use mathlib.Core.List.{List, [], _++_, _∷_, Memᴰ·append-left as append-left, Memᴰ·append-right as append-right, List·Memᴰ·head as here, map, map-append, Memᴰ·map as map-in, List·Memᴰ·not-nil as mem-nil, List·Memᴰ·tail as there}
+use mathlib.Core.List.{List, [], _++_, _∷_, map, map-append}
+use mathlib.Core.List.{Memᴰ·append-left as append-left, Memᴰ·append-right as append-right, List·Memᴰ·head as here, Memᴰ·map as map-in, List·Memᴰ·not-nil as mem-nil, List·Memᴰ·tail as there}
 use Prim.Native.Nat.{_*_, _+_, _-_, _≤_, max, ℕ}
 use native.Mathlib.Decide.{decLe, ℕ-discrete}
 use native.Mathlib.Nat.{add-mul, mul-le-mul-right}

@@ -8,7 +8,8 @@ use native.Mathlib.Omega.{arith}
 use borrow.Author.Tests.{le-leb, leb-false, leb-true, lt-leb}
 use lib.Dec.{leb, leb→le}
 use lib.ListN.{List·getD-append, drop, getD, length, length-drop, length-set, length-take, set, take}
-use lib.Seq.{append-snoc, drop-append-add, drop-append-seam, drop-at, drop-cons, getD-append-add, getD-drop, getD-take, length-paste-head, length-take-le, paste, paste-zero, set-at, take-append-le, take-append-seam, take-length, take-suc, take-take}
+use lib.Seq.{append-snoc, drop-append-add, drop-append-seam, drop-at, drop-cons, getD-append-add, getD-drop, getD-take, length-paste-head}
+use lib.Seq.{length-take-le, paste, paste-zero, set-at, take-append-le, take-append-seam, take-length, take-suc, take-take}
 use Rattle.lists.proofs.Tests.{T-both, T-true}
 use Rattle.copies.specs.Copies.{between, copied, fits, inserted, moved}
 use Rattle.copies.proofs.Copies.{copied-all}

@@ -3,7 +3,9 @@
 use mathlib.Core.Path.{_∙_, _≡_, ap, refl, subst, sym}
 use mathlib.Core.Logic.{_↔_, _⊎_, inl, inr, ⊎-elim}
 use mathlib.Core.Bool.{not}
-use mathlib.Core.List.{List, [], _++_, _∷_, List·Memᴰ·append-cases as append-cases, Memᴰ·append-left as append-left, List·Memᴰ·head as here, List·Memᴰ·cases-cons as mem-cases, Memᴰ·cast as mem-cast, List·Memᴰ·not-nil as mem-nil, List·Memᴰ·tail as there}
+use mathlib.Core.List.{List, [], _++_, _∷_}
+use mathlib.Core.List.{List·Memᴰ·append-cases as append-cases, Memᴰ·append-left as append-left, List·Memᴰ·head as here}
+use mathlib.Core.List.{List·Memᴰ·cases-cons as mem-cases, Memᴰ·cast as mem-cast, List·Memᴰ·not-nil as mem-nil, List·Memᴰ·tail as there}
 use Prim.Native.Nat.{ℕ}
 use lib.Dec.{T, T-not, not-T}
 use lib.ListN.{length}

@@ -1,7 +1,7 @@
--- The trees of a network with row states are those of the graph without the barred rows that have all must rows (`layouts-open`): a part of the list, in its order, of
--- either graph (`layouts-part`, `layouts-listed`). What they are: `layouts-mem`. The must rows are distinct rows (`must-distinct`, `must-out`), and none is barred.
+-- The trees of a network with row states are those of the graph without the barred rows that have all must rows (`layouts-open`): a part of the list, in its order
+-- (`layouts-part`). What they are: `layouts-mem`. The must rows are distinct rows (`must-distinct`, `must-out`), and none is barred.
 use mathlib.Core.Path.{_∙_, _≡_, ap, refl, subst, sym}
-use mathlib.Core.Logic.{_↔_, ⊎-elim}
+use mathlib.Core.Logic.{_↔_}
 use mathlib.Core.Bool.{Bool, not}
 use mathlib.Core.List.{List, map}
 use Prim.Native.Nat.{_<_, ℕ}
@@ -9,17 +9,17 @@ use native.Mathlib.Decide.{decLt}
 use native.Mathlib.Omega.{arith}
 use lib.Dec.{T, T-not, not-T}
 use lib.ListN.{List·getD-eq-default, List·getD-map, getD, length, length-map}
-use Rattle.lists.specs.Lists.{all, filterB, hasAll, member, pick}
+use Rattle.lists.specs.Lists.{all, filterB, hasAll, pick}
 use Rattle.lists.proofs.Distinct.{Distinct, filter-distinct, range-distinct}
-use Rattle.lists.proofs.Members.{_∈_, _⊆_, all-in, all-out, filter-both, filter-in, filter-out, hasAll-in, hasAll-out, member-in, member-out}
-use Rattle.lists.proofs.Tests.{T-both, T-false, T-true, decide}
+use Rattle.lists.proofs.Members.{_∈_, _⊆_, all-in, all-out, filter-both, filter-in, filter-out, hasAll-in, hasAll-out}
+use Rattle.lists.proofs.Tests.{T-both, T-false, T-true}
 use Rattle.graph.specs.Graph.{firstEnd, rowNumbers, secondEnd}
 use Rattle.graph.specs.Paths.{isMinimal, trees}
 use Rattle.graph.proofs.Masked.{Masked, masked-trees}
 use Rattle.graph.proofs.Minimal.{WellFormed, rowNumbers-in}
 use Rattle.graph.proofs.Parts.{Part, filter-part, trees-part}
 use Rattle.graph.proofs.Trees.{trees-minimal}
-use Rattle.costs.specs.Layouts.{barredAt, isBarred, isMust, keepsStates, layouts, mustAt, mustEnd, mustFirsts, mustRows, mustSeconds, openEnd, openGraph}
+use Rattle.costs.specs.Layouts.{barredAt, isBarred, isMust, keepsStates, layouts, mustAt, mustEnd, mustFirsts, mustRows, openEnd, openGraph}
 use Rattle.costs.specs.Network.{Network, Row, State, barred, graphOf, must, noRow, «open», rowAt}
 
 -- The must rows
@@ -74,11 +74,6 @@ module _ (w : Network) (end : Row → ℕ) (none : end noRow ≡ 0) (r : ℕ) wh
   other-end : ¬ T (mustAt w r) → getD (map (λ row. mustEnd row (end row)) (w .rows)) r 0 ≡ 0
   other-end n = end-at w (λ row. mustEnd row (end row)) refl r ∙ ap (λ (b : Bool). pick b (end (rowAt w r)) 0) (T-false (mustAt w r) .0 n)
 
-  must-end : T (mustAt w r) → getD (map (λ row. mustEnd row (end row)) (w .rows)) r 0 ≡ getD (map (λ row. openEnd row (end row)) (w .rows)) r 0
-  must-end t =
-      end-at w (λ row. mustEnd row (end row)) refl r ∙ ap (λ (b : Bool). pick b (end (rowAt w r)) 0) (T-true (mustAt w r) .0 t)
-      ∙ sym (open-end (not-both (rowAt w r .state) t) ∙ end-at w end none r)
-
 masked : (w : Network) → Masked (graphOf w) (barredAt w) (openGraph w .firstEnds) (openGraph w .secondEnds)
 masked w = record {
   absent = λ r t. barred-end w (λ row. row .firstEnd) refl r t;
@@ -103,30 +98,9 @@ must-known w r t = elim (decLt r (length (w .rows))) [
 pub must-in : (w : Network) (r : ℕ) → T (mustAt w r) → r ∈ mustRows w
 must-in w r t = filter-in (mustAt w) (rowNumbers-in (graphOf w) r (rw length-map (must-known w r t))) t
 
--- the ends of the must rows alone, in the graph without the barred rows
-pub must-masked : (w : Network) → Masked (openGraph w) (λ r. not (member r (mustRows w))) (mustFirsts w) (mustSeconds w)
-must-masked w = record {
-  absent = λ r t. other-end w (λ row. row .firstEnd) refl r (λ m. T-not (member r (mustRows w)) t (member-in (must-in w r m)));
-  first = λ r n. must-end w (λ row. row .firstEnd) refl r (is-must r n);
-  second = λ r n. must-end w (λ row. row .secondEnd) refl r (is-must r n);
-}
-  where
-    is-must : (r : ℕ) → ¬ T (not (member r (mustRows w))) → T (mustAt w r)
-    is-must r n = ⊎-elim (λ m. must-out w r (member-out r (mustRows w) m) .1) (λ m. absurd (n (not-T (member r (mustRows w)) m))) (decide (member r (mustRows w)))
-
-pub must-length : (w : Network) → length (mustFirsts w) ≡ length (openGraph w .firstEnds)
-must-length w = length-map (w .rows) (λ row. mustEnd row (row .firstEnd)) ∙ sym (length-map (w .rows) (λ row. openEnd row (row .firstEnd)))
-
--- the must rows are rows of the graph
-pub must-low : (w : Network) (r : ℕ) → r ∈ mustRows w → r < length (openGraph w .firstEnds)
-must-low w r i = rw length-map (must-known w r (must-out w r i .1))
-
 -- the ends of a row that is not barred
 pub open-ends : (w : Network) (r : ℕ) → ¬ T (barredAt w r) → (firstEnd (openGraph w) r ≡ firstEnd (graphOf w) r) × (secondEnd (openGraph w) r ≡ secondEnd (graphOf w) r)
 open-ends w r n = (masked w .first r n, masked w .second r n)
-
-pub open-length : (w : Network) → length (openGraph w .firstEnds) ≡ length (graphOf w .firstEnds)
-open-length w = length-map (w .rows) (λ row. openEnd row (row .firstEnd)) ∙ sym (length-map (w .rows) (λ row. row .firstEnd))
 
 pub open-formed : (w : Network) → WellFormed (graphOf w) → WellFormed (openGraph w)
 open-formed w wf = record { once = wf .once; plant = wf .plant; noZero = wf .noZero }
@@ -143,10 +117,6 @@ layouts-open w wf =
 
 pub layouts-part : (w : Network) → Part (graphOf w) (layouts w)
 layouts-part w = filter-part (keepsStates w) (trees-part (graphOf w))
-
--- in the order of the graph without the barred rows
-pub layouts-listed : (w : Network) → WellFormed (graphOf w) → Part (openGraph w) (layouts w)
-layouts-listed w wf = subst (Part (openGraph w)) (sym (layouts-open w wf)) (filter-part (hasAll (mustRows w)) (trees-part (openGraph w)))
 
 pub layouts-mem : (w : Network) → WellFormed (graphOf w) → (p : List ℕ) → (p ∈ layouts w) ↔ (T (isMinimal (graphOf w) p) × T (keepsStates w p))
 layouts-mem w wf p = (

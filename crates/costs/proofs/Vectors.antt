@@ -1,8 +1,8 @@
 -- The order of vectors, `vectorLess`, is a strict total order (`vector-order`), and equality of vectors is decided (`vector-eq?`).
 -- `noneLarger` and `someSmaller` say what they are named for, component by component (`noneLarger-exactly`, `someSmaller-exactly`).
 -- Dominance is a strict partial order on vectors of one length (`dominates-irrefl`, `dominates-trans`), what dominates is less
--- (`dominates-less`), and `noneLarger` tests in one walk whether a vector equals or dominates another (`noneLarger-cases`, `noneLarger-is`).
-use mathlib.Core.Path.{_∙_, _≡_, ap, ap₂, refl, subst, sym}
+-- (`dominates-less`), and `noneLarger` tests in one walk whether a vector equals or dominates another (`noneLarger-cases`).
+use mathlib.Core.Path.{_∙_, _≡_, ap, ap₂, refl, sym}
 use mathlib.Core.Logic.{_↔_, _⊎_, inl, inr, ⊎-elim}
 use mathlib.Core.Bool.{Bool}
 use mathlib.Core.List.{List, [], _∷_}
@@ -12,10 +12,9 @@ use native.Mathlib.Omega.{arith}
 use lib.Dec.{T, eqb, eqb→eq, leb, leb→le, le→leb, ltb, ltb→lt, lt→ltb}
 use lib.ListN.{getD, length}
 use lib.Seq.{ext-getD}
-use Rattle.lists.specs.Lists.{both, either, same}
-use Rattle.lists.proofs.Members.{same-of, same-out}
+use Rattle.lists.specs.Lists.{both, either}
 use Rattle.lists.proofs.Orders.{Everywhere, StrictTotal, compared, is-equal, is-greater, is-less, less-ne}
-use Rattle.lists.proofs.Tests.{T-both, T-either, T-same, decide, eq→eqb, not-ltb→le}
+use Rattle.lists.proofs.Tests.{T-both, T-either, decide, eq→eqb, not-ltb→le}
 use Rattle.costs.specs.Costs.{dominates, noneLarger, someSmaller, vectorLess}
 
 -- one step of `vectorLess`
@@ -170,11 +169,3 @@ pub noneLarger-cases : (v w : List ℕ) → length v ≡ length w → T (noneLar
 noneLarger-cases v w e p =
     ⊎-elim (λ (h : T (someSmaller v w)). inr (T-both (noneLarger v w) (someSmaller v w) .1 (p, h)))
     (λ (h : ¬ T (someSmaller v w)). inl (noneLarger-equal v w e p h)) (decide (someSmaller v w))
-
--- So `noneLarger` tests in one walk whether a vector equals or dominates another.
-pub noneLarger-is : (v w : List ℕ) → length v ≡ length w → noneLarger v w ≡ either (same v w) (dominates v w)
-noneLarger-is v w e = T-same (noneLarger v w) (either (same v w) (dominates v w))
-    (λ t. ⊎-elim (λ (q : v ≡ w). T-either (same v w) (dominates v w) .1 (inl (same-of v w q)))
-    (λ (d : T (dominates v w)). T-either (same v w) (dominates v w) .1 (inr d)) (noneLarger-cases v w e t))
-    (λ t. ⊎-elim (λ (q : T (same v w)). subst (λ (u : List ℕ). T (noneLarger v u)) (same-out v w q) (noneLarger-refl v))
-    (dominates-noneLarger v w) (T-either (same v w) (dominates v w) .0 t))

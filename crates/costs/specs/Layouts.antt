@@ -55,6 +55,3 @@ openGraph w = record {
 -- the ends of the must rows, 0 for every other row
 abbrev pub mustFirsts : Network → List ℕ
 mustFirsts w = map (λ row. mustEnd row (row .firstEnd)) (w .rows)
-
-abbrev pub mustSeconds : Network → List ℕ
-mustSeconds w = map (λ row. mustEnd row (row .secondEnd)) (w .rows)

@@ -94,7 +94,9 @@ fn moved(dropped: &mut [u32], merged: &mut [u32], v: usize, x: usize)
 // The links of v to x and y, one after the other, as a link between x and y.
 fn chained(dropped: &mut [u32], merged: &mut [u32], v: usize, x: usize, y: usize)
     requires { ⌜ (x < v) × (y < v) × (¬ (x ≡ y)) × (v < 32) × (1024 ≤ length (now dropped)) × (1024 ≤ length (now merged)) ⌝ }
-    ensures { λ _. ⌜ Agree (matrixOf (now (dropped .exit)) (now (merged .exit))) (addHeld limit (matrixOf (now (dropped .entry)) (now (merged .entry))) x y (held limit (behind (matrixOf (now (dropped .entry)) (now (merged .entry)) v x) (matrixOf (now (dropped .entry)) (now (merged .entry)) v y)))) 32 ⌝ }
+    ensures { λ _. ⌜ Agree (matrixOf (now (dropped .exit)) (now (merged .exit)))
+        (addHeld limit (matrixOf (now (dropped .entry)) (now (merged .entry))) x y
+        (held limit (behind (matrixOf (now (dropped .entry)) (now (merged .entry)) v x) (matrixOf (now (dropped .entry)) (now (merged .entry)) v y)))) 32 ⌝ }
 {
     let first = v * 32 + x;
     let second = v * 32 + y;
@@ -112,7 +114,8 @@ fn chained(dropped: &mut [u32], merged: &mut [u32], v: usize, x: usize, y: usize
 // The count by merging: the last node v into x, to which its link is dropped already. It is made in the next level.
 fn merging(dropped: &mut [u32], merged: &mut [u32], v: usize, x: usize, f: u32, so: u32) -> u32
     requires { ⌜ (x < v) × (v < 32) × (so ≤ limit) × (1024 * (v + 1) ≤ length (now dropped)) × (1024 * (v + 1) ≤ length (now merged)) ⌝ }
-    ensures { λ r. ⌜ (r ≡ heldTotal limit so f (moveHeld limit (matrixOf (now (dropped .entry)) (now (merged .entry))) v x 0 v) v) × (r ≤ limit) × LevelKept (now (dropped .entry)) (now (dropped .exit)) × LevelKept (now (merged .entry)) (now (merged .exit)) ⌝ }
+    ensures { λ r. ⌜ (r ≡ heldTotal limit so f (moveHeld limit (matrixOf (now (dropped .entry)) (now (merged .entry))) v x 0 v) v)
+        × (r ≤ limit) × LevelKept (now (dropped .entry)) (now (dropped .exit)) × LevelKept (now (merged .entry)) (now (merged .exit)) ⌝ }
 {
     copied(dropped, v);
     copied(merged, v);

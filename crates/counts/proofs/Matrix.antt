@@ -17,7 +17,8 @@ use Rattle.counts.specs.Trees.{unite}
 use Rattle.counts.specs.Matrix.{Matrix, absent, add, links, mergeInto, moveFrom, put, star, total}
 use Rattle.counts.proofs.Labels.{unite-coarser, unite-joins, unite-out}
 use Rattle.counts.proofs.Alike.{Within, count-alike, move-same}
-use Rattle.counts.proofs.Laws.{Holds, count-absent, count-behind, count-beside, count-ends, count-flip, count-held, count-pair, count-swap, first, holds-before, holds-behind, later, within-more}
+use Rattle.counts.proofs.Laws.{Holds, count-absent, count-behind, count-beside, count-ends, count-flip, count-held}
+use Rattle.counts.proofs.Laws.{count-pair, count-swap, first, holds-before, holds-behind, later, within-more}
 
 -- One weight replaced
 

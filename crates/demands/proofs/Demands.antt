@@ -35,7 +35,8 @@ page-others f page start = ap (λ (l : List ℕ). member 12 (11 ∷ l)) (start-o
 
 pub demand-1 : (f rows : List ℕ) (criterion : ℕ) (buffer page start costs witnesses : List ℕ) (office h : ℕ) (counts : Counts)
     → Demand1 f rows criterion buffer page start costs witnesses office h counts
-unfolding openOf reachCall countCall orderCall costCall chargeCall pageCall frontCall officeCall fileChecks countChecks orderChecks costChecks chargeChecks pageChecks frontChecks officeChecks drawnChecks treeChecks
+unfolding openOf reachCall countCall orderCall costCall chargeCall pageCall frontCall officeCall
+    fileChecks countChecks orderChecks costChecks chargeChecks pageChecks frontChecks officeChecks drawnChecks treeChecks
 demand-1 f rows criterion buffer page start costs witnesses office h counts = record {
   opens = refuses-checked (fileChecks f) _;
   reaches = refuses-checked (fileChecks f) _;

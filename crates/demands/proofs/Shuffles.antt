@@ -2,7 +2,8 @@
 use mathlib.Core.Path.{_∙_, _≡_, ap, ap₂, refl, subst, sym}
 use mathlib.Core.Logic.{_↔_, _⊎_, inl, inr, ⊎-elim}
 use mathlib.Core.Bool.{Bool}
-use mathlib.Core.List.{List, [], _++_, _∷_, List·Memᴰ·append-cases as append-cases, Memᴰ·append-right as append-right, List·Memᴰ·head as here, map, List·Memᴰ·cases-cons as mem-cases, List·Memᴰ·not-nil as mem-nil}
+use mathlib.Core.List.{List, [], _++_, _∷_, map}
+use mathlib.Core.List.{List·Memᴰ·append-cases as append-cases, Memᴰ·append-right as append-right, List·Memᴰ·head as here, List·Memᴰ·cases-cons as mem-cases, List·Memᴰ·not-nil as mem-nil}
 use Prim.Native.Nat.{_<_, ℕ}
 use lib.Dec.{T, leb, ltb}
 use lib.ListN.{getD, length, take}
@@ -49,7 +50,8 @@ less-stands {D} {less} order (x ∷ l) p q up i j t = go (mem-cases i) (mem-case
   where
     go : (p ≡ x) ⊎ (p ∈ l) → (q ≡ x) ⊎ (q ∈ l) → (p ∈ l → q ∈ l → StandsBefore l p q) → StandsBefore (x ∷ l) p q
     go (inl a) (inl b) later = absurd (order .irrefl x (rw (a, b) at t))
-    go (inl a) (inr k) later = let (between, behind, e) = mem-stands k in record { before = []; between = between; behind = behind; stands = ap₂ (λ (y : List ℕ) (rest : List (List ℕ)). y ∷ rest) (sym a) e }
+    go (inl a) (inr k) later = let (between, behind, e) = mem-stands k in
+        record { before = []; between = between; behind = behind; stands = ap₂ (λ (y : List ℕ) (rest : List (List ℕ)). y ∷ rest) (sym a) e }
     go (inr k) (inl b) later = absurd (less-asym order p x (subst (λ (y : List ℕ). T (less p y)) b t) (up .0 p k))
     go (inr k) (inr m) later = let s = later k m in record { before = x ∷ s .before; between = s .between; behind = s .behind; stands = ap (λ (rest : List (List ℕ)). x ∷ rest) (s .stands) }
 

@@ -51,7 +51,8 @@ use Rattle.costs.specs.Layouts.{keepsStates, mustRows}
 use Rattle.forests.proofs.Forest.{Forest}
 use Rattle.network_file.specs.File.{fileChecks, networkOf, openOf, sizesOf}
 use Rattle.pages.specs.Pages.{capacity, pieces, restAfter}
-use Rattle.operations.specs.Operations.{FrontTables, Fronted, Paged, Reached, costCall, costChecks, frontCall, frontChecks, graphIn, layoutsIn, orderCall, orderChecks, over, pageCall, pageChecks, pickCall, reachCall}
+use Rattle.operations.specs.Operations.{FrontTables, Fronted, Paged, Reached, costCall, costChecks, frontCall, frontChecks, graphIn}
+use Rattle.operations.specs.Operations.{layoutsIn, orderCall, orderChecks, over, pageCall, pageChecks, pickCall, reachCall}
 use Rattle.operations.specs.Runs.{Call, runOf}
 use Rattle.charges.specs.Charges.{Charge, Split, addedAt, chargeCall, chargeChecks, chargedNodes, chargesBy}
 use Rattle.counts.specs.Count.{countCall, countChecks}

@@ -10,5 +10,6 @@ use Rattle.tables.specs.Tables.{passes}
 use Rattle.examples.specs.Examples.{AllRight, table}
 
 pub table-right : AllRight table
-unfolding all filterB first insert sort range member sum largest sequences same isTree placeOf stepOf stepsFrom ascending isMinimal keysLess trees streetsOf costOf noneLarger someSmaller vectorLess once frontOf behind flat pieces run passes whole countRows treeCount
+unfolding all filterB first insert sort range member sum largest sequences same isTree placeOf stepOf stepsFrom ascending isMinimal keysLess trees
+    streetsOf costOf noneLarger someSmaller vectorLess once frontOf behind flat pieces run passes whole countRows treeCount
 table-right = (refl, (refl, (refl, (refl, (refl, (refl, (refl, (refl, (refl, (refl, (refl, (refl, (refl, (refl, (refl, (refl, (refl, (refl, (refl, (refl, tt))))))))))))))))))))

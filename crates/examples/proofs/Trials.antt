@@ -1,5 +1,6 @@
 -- All trials of the table are right (`trials-right`): antt computes each; and network A's rows in another sequence are a rearrangement of them (`shuffled-a`).
 use mathlib.Core.Path.{refl}
+use lib.ListN.{drop}
 use Rattle.lists.specs.Lists.{all, any, distinct, filterB, first, insert, largest, member, range, same, sequences, sort, sum}
 use Rattle.graph.specs.Graph.{isTree}
 use Rattle.graph.specs.Paths.{ascending, isMinimal, keysLess, placeOf, stepOf, stepsFrom, trees}
@@ -7,7 +8,8 @@ use Rattle.checks.specs.Checks.{checked, ended, firstUnmet}
 use Rattle.costs.specs.Cases.{caseAfter}
 use Rattle.costs.specs.Costs.{costOf, frontOf, frontTrees, noneLarger, once, someSmaller, streetsOf, treeWith, vectorLess}
 use Rattle.network_file.specs.File.{fileChecks, networkOf, openOf}
-use Rattle.operations.specs.Operations.{costCall, costChecks, drawnChecks, frontCall, frontChecks, frontOver, orderCall, orderChecks, pageCall, pageChecks, reachCall, reachedNodes, startChecks, treeChecks, wordOf}
+use Rattle.operations.specs.Operations.{costCall, costChecks, drawnChecks, frontCall, frontChecks, frontOver, orderCall}
+use Rattle.operations.specs.Operations.{orderChecks, pageCall, pageChecks, reachCall, reachedNodes, startChecks, treeChecks, wordOf}
 use Rattle.pages.specs.Pages.{behind, capacity, flat, pieces}
 use Rattle.table.specs.Enter.{beside, filled}
 use Rattle.charges.specs.Charges.{borneBy, chargeCall, chargeChecks, chargesBy}
@@ -19,8 +21,16 @@ use Rattle.shuffles.proofs.Shuffles.{shuffled-by}
 use Rattle.examples.specs.Trials.{AllRight, fileA, numbersA, shuffledA, table}
 
 pub trials-right : AllRight table
-unfolding all range filterB first insert sort sequences same member sum largest placeOf stepOf stepsFrom ascending keysLess isMinimal isTree trees streetsOf costOf noneLarger someSmaller vectorLess caseAfter once frontOf treeWith frontTrees behind flat capacity firstUnmet checked ended networkOf fileChecks openOf reachedNodes wordOf reachCall treeChecks drawnChecks startChecks orderChecks orderCall costChecks costCall pageChecks pageCall frontOver frontChecks frontCall borneBy chargesBy chargeChecks chargeCall any beside filled pieces entryOf tablesFit officeChecks officeCall whole countRows treeCount countChecks countCall partParallel
-trials-right = (refl, (refl, (refl, (refl, (refl, (refl, (refl, (refl, (refl, (refl, (refl, (refl, (refl, (refl, (refl, (refl, (refl, (refl, (refl, (refl, (refl, (refl, (refl, (refl, (refl, (refl, (refl, (refl, (refl, (refl, (refl, (refl, (refl, (refl, (refl, (refl, (refl, (refl, (refl, (refl, (refl, (refl, (refl, (refl, (refl, (refl, (refl, (refl, (refl, (refl, (refl, (refl, (refl, (refl, (refl, (refl, (refl, (refl, (refl, (refl, (refl, (refl, (refl, (refl, (refl, (refl, (refl, (refl, (refl, (refl, (refl, (refl, (refl, (refl, (refl, (refl, (refl, (refl, (refl, (refl, (refl, (refl, (refl, (refl, tt))))))))))))))))))))))))))))))))))))))))))))))))))))))))))))))))))))))))))))))))))))
+unfolding all range filterB first insert sort sequences same member sum largest placeOf stepOf stepsFrom ascending keysLess isMinimal isTree trees streetsOf costOf noneLarger
+    someSmaller vectorLess caseAfter once frontOf treeWith frontTrees behind flat capacity firstUnmet checked ended networkOf fileChecks openOf reachedNodes wordOf reachCall
+    treeChecks drawnChecks startChecks orderChecks orderCall costChecks costCall pageChecks pageCall frontOver frontChecks frontCall borneBy chargesBy chargeChecks chargeCall
+    any beside filled pieces entryOf tablesFit officeChecks officeCall whole countRows treeCount countChecks countCall partParallel
+trials-right =
+    let from-68 : AllRight (drop 68 table) = (refl, (refl, (refl, (refl, (refl, (refl, (refl, (refl, (refl, (refl, (refl, (refl, (refl, (refl, (refl, (refl, tt)))))))))))))))) in
+    let from-51 : AllRight (drop 51 table) = (refl, (refl, (refl, (refl, (refl, (refl, (refl, (refl, (refl, (refl, (refl, (refl, (refl, (refl, (refl, (refl, (refl, from-68))))))))))))))))) in
+    let from-34 : AllRight (drop 34 table) = (refl, (refl, (refl, (refl, (refl, (refl, (refl, (refl, (refl, (refl, (refl, (refl, (refl, (refl, (refl, (refl, (refl, from-51))))))))))))))))) in
+    let from-17 : AllRight (drop 17 table) = (refl, (refl, (refl, (refl, (refl, (refl, (refl, (refl, (refl, (refl, (refl, (refl, (refl, (refl, (refl, (refl, (refl, from-34))))))))))))))))) in
+    (refl, (refl, (refl, (refl, (refl, (refl, (refl, (refl, (refl, (refl, (refl, (refl, (refl, (refl, (refl, (refl, (refl, from-17)))))))))))))))))
 
 pub shuffled-a : Shuffled (networkOf fileA) (networkOf shuffledA) numbersA
 unfolding all any distinct member networkOf

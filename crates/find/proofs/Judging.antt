@@ -4,7 +4,8 @@ use mathlib.Core.Path.{_∙_, _≡_, ap, subst, sym}
 use mathlib.Core.Bool.{true}
 use mathlib.Core.Logic.{⊎-elim}
 use mathlib.Core.Option.{none}
-use mathlib.Core.List.{List, [], _++_, _∷_, map, List·Memᴰ·append-cases as append-cases, List·Memᴰ·head as here, List·Memᴰ·cases-cons as mem-cases, List·Memᴰ·not-nil as mem-nil, List·Memᴰ·tail as there}
+use mathlib.Core.List.{List, [], _++_, _∷_, map}
+use mathlib.Core.List.{List·Memᴰ·append-cases as append-cases, List·Memᴰ·head as here, List·Memᴰ·cases-cons as mem-cases, List·Memᴰ·not-nil as mem-nil, List·Memᴰ·tail as there}
 use Prim.Native.Nat.{_+_, _<_, _≤_, suc, zero, ℕ}
 use native.Mathlib.Nat.{zero-add}
 use native.Mathlib.Omega.{arith}
@@ -175,6 +176,7 @@ few-part firsts seconds (suc n) labels (r ∷ rows) q m = pick-elim (λ (l : Lis
     (λ t i. there (few-part firsts seconds (suc n) labels rows q i))
     (λ t i. ⊎-elim (λ e. here e) (λ j. there (few-part firsts seconds n (joinedBy firsts seconds labels r) rows q j)) (mem-cases i)) m
 
-pub choice-on : (firsts seconds weights flags : List ℕ) (n : ℕ) (labels : List ℕ) {chosen : List ℕ} → chosen ≡ take 31 (chooseFew firsts seconds n labels (rowsBy weights flags)) → chosen ⊆ rowsOn flags
+pub choice-on : (firsts seconds weights flags : List ℕ) (n : ℕ) (labels : List ℕ) {chosen : List ℕ}
+    → chosen ≡ take 31 (chooseFew firsts seconds n labels (rowsBy weights flags)) → chosen ⊆ rowsOn flags
 choice-on firsts seconds weights flags n labels e r m =
     by-usable weights flags r (few-part firsts seconds n labels (rowsBy weights flags) r (take-out 31 _ (subst (λ (x : List ℕ). r ∈ x) e m)))

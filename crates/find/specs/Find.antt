@@ -1,4 +1,5 @@
--- What a search is over: the graph of two lists of ends (`graphIn`, `Tables`); a node of it (`Node`); and what an answer stands for (`foundOf`). Which tree is found is left open; completions' `Answers` says what the answer tells.
+-- What a search is over: the graph of two lists of ends (`graphIn`, `Tables`); a node of it (`Node`); and what an answer stands for (`foundOf`).
+-- Which tree is found is left open; completions' `Answers` says what the answer tells.
 use mathlib.Core.Option.{Option, none, some}
 use mathlib.Core.List.{List}
 use Prim.Native.Nat.{_<_, _≤_, ℕ}

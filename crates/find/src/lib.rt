@@ -267,7 +267,10 @@ fn judge(
     labels: [u8; 33],
     factors: [u16; 4],
 ) -> Judged
-    ensures { λ r. ⌜ Usable (now (flags .entry)) need r × ((nodes : ℕ) → Given (now (firsts .entry)) (now (seconds .entry)) nodes k limits (rowsOf inc) (now (flags .entry)) need labels → Judges (graphIn (now (firsts .entry)) (now (seconds .entry)) nodes) (tableOf kinds k (now (costs .entry)) (now (leads .entry))) (take k limits) (rowsOf inc) (rowsOn (now (flags .entry))) r) ⌝ }
+    ensures { λ r. ⌜ Usable (now (flags .entry)) need r
+        × ((nodes : ℕ) → Given (now (firsts .entry)) (now (seconds .entry)) nodes k limits (rowsOf inc) (now (flags .entry)) need labels
+        → Judges (graphIn (now (firsts .entry)) (now (seconds .entry)) nodes) (tableOf kinds k (now (costs .entry)) (now (leads .entry)))
+        (take k limits) (rowsOf inc) (rowsOn (now (flags .entry))) r) ⌝ }
 {
     let weights = weighing::weights(kinds, k, costs, leads, limits, inc, flags, factors);
     let chosen = lightest(firsts, seconds, &weights, flags, need, labels);
@@ -407,7 +410,9 @@ fn search(
     usable: [u8; 256],
     first: [u16; 4],
 ) -> Found
-    ensures { λ r. ⌜ (Tables (now (firsts .entry)) (now (seconds .entry)) limit k → Node (graphIn (now (firsts .entry)) (now (seconds .entry)) limit) k limits (rowsOf inc) usable → Answers (graphIn (now (firsts .entry)) (now (seconds .entry)) limit) (tableOf kinds k (now (costs .entry)) (now (leads .entry))) (take k limits) (rowsOf inc) (rowsOn usable) (foundOf r)) ⌝ }
+    ensures { λ r. ⌜ (Tables (now (firsts .entry)) (now (seconds .entry)) limit k
+        → Node (graphIn (now (firsts .entry)) (now (seconds .entry)) limit) k limits (rowsOf inc) usable
+        → Answers (graphIn (now (firsts .entry)) (now (seconds .entry)) limit) (tableOf kinds k (now (costs .entry)) (now (leads .entry))) (take k limits) (rowsOf inc) (rowsOn usable) (foundOf r)) ⌝ }
 {
     let labels = labels::labels_of(firsts, seconds, inc);
     let need = missing(limit, inc);
@@ -484,7 +489,9 @@ pub fn find(
     inc: Chosen,
     usable: [u8; 256],
 ) -> Found
-    ensures { λ r. ⌜ (Tables (now (firsts .entry)) (now (seconds .entry)) limit k → Node (graphIn (now (firsts .entry)) (now (seconds .entry)) limit) k limits (rowsOf inc) usable → Answers (graphIn (now (firsts .entry)) (now (seconds .entry)) limit) (tableOf kinds k (now (costs .entry)) (now (leads .entry))) (take k limits) (rowsOf inc) (rowsOn usable) (foundOf r)) ⌝ }
+    ensures { λ r. ⌜ (Tables (now (firsts .entry)) (now (seconds .entry)) limit k
+        → Node (graphIn (now (firsts .entry)) (now (seconds .entry)) limit) k limits (rowsOf inc) usable
+        → Answers (graphIn (now (firsts .entry)) (now (seconds .entry)) limit) (tableOf kinds k (now (costs .entry)) (now (leads .entry))) (take k limits) (rowsOf inc) (rowsOn usable) (foundOf r)) ⌝ }
 {
     search(
         firsts,

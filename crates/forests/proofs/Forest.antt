@@ -1,7 +1,7 @@
 -- Forests: distinct rows between nodes, of which none has its ends joined by the others. Parts of a forest are forests (`forest-part`), and a
 -- row more whose ends are not joined keeps a forest (`forest-add`). A forest grows within any rows until it joins what they join (`grow`).
 use mathlib.Core.Path.{_≡_, refl, subst, sym}
-use mathlib.Core.Logic.{_↔_, _⊎_, inl, inr, ⊎-elim}
+use mathlib.Core.Logic.{_⊎_, inl, inr, ⊎-elim}
 use mathlib.Core.List.{List, [], _∷_, List·Memᴰ·head as here, List·Memᴰ·cases-cons as mem-cases, Memᴰ·cast as mem-cast, List·Memᴰ·not-nil as mem-nil, List·Memᴰ·tail as there}
 use Prim.Native.Nat.{_<_, ℕ}
 use native.Mathlib.Decide.{ℕ-discrete}
@@ -71,10 +71,6 @@ module _ {g : Graph} where
       later q i j =
           ⊎-elim (h .apart q i) (λ o. n (over-ends o (cut-old q rs) (joined-ends i (h .lies q i)))) (cut-front r q rs (λ e. fresh (mem-cast e i)) j)
 
-  -- so a forest is made row by row
-  pub forest-cons : (r : ℕ) (rs : List ℕ) → Forest g (r ∷ rs) ↔ (Lies g r × (¬ Joined g rs (firstEnd g r) (secondEnd g r)) × Forest g rs)
-  forest-cons r rs = (λ h. (h .lies r (here refl), forest-head h, forest-tail h), λ t. forest-add (t .2) (t .0) (t .1))
-
 module _ (g : Graph) where
   pub lies? : (r : ℕ) → Dec (Lies g r)
   lies? r = elim (mem? ℕ-discrete (firstEnd g r) (g .nodes)) [
@@ -91,15 +87,6 @@ module _ (g : Graph) where
     | no n ↦ no (λ h. n (h .0))
     | yes l ↦ elim (joined? g rs (firstEnd g r) (secondEnd g r)) [ yes j ↦ no (λ h. h .1 j) | no n ↦ yes (l, n) ]
   ]
-
-  pub forest? : (rs : List ℕ) → Dec (Forest g rs)
-  forest? [] = yes (forest-nil g)
-  forest? (r ∷ rs) = step (forest? rs) (free? rs r)
-    where
-      step : Dec (Forest g rs) → Dec (Free rs r) → Dec (Forest g (r ∷ rs))
-      step (no n) d = no (λ h. n (forest-tail h))
-      step (yes h) (yes f) = yes (forest-add h (f .0) (f .1))
-      step (yes h) (no n) = no (λ h. n (h .lies r (here refl), forest-head h))
 
   -- a forest ts around fs, with rows of fs and ps, that joins all that ps joins
   pub record Grown (fs ps ts : List ℕ) : Type 0 where

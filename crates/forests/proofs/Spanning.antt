@@ -1,8 +1,8 @@
--- Spanning trees are the forests that join all nodes (`tree-iff`), and the forests with one row fewer than nodes (`full-tree`); they are
--- maximal (`tree-maximal`). EXTENSION: within rows that join all nodes every forest extends to a spanning tree (`extension`, `must-have`).
+-- Spanning trees are the forests that join all nodes (`forest-tree`, `tree-forest`), and the forests with one row fewer than nodes (`full-tree`).
+-- EXTENSION: within rows that join all nodes every forest extends to a spanning tree (`extension`, `must-have`).
 use mathlib.Core.Path.{_≡_}
 use mathlib.Core.Logic.{_↔_, ⊎-elim}
-use mathlib.Core.List.{List, [], _∷_, List·Memᴰ·not-nil as mem-nil}
+use mathlib.Core.List.{List, [], List·Memᴰ·not-nil as mem-nil}
 use Prim.Native.Nat.{_<_, suc, ℕ}
 use native.Mathlib.Decide.{ℕ-discrete}
 use native.Mathlib.Omega.{arith}
@@ -10,13 +10,13 @@ use lib.Dec.{T}
 use lib.ListN.{length}
 use Rattle.lists.proofs.Distinct.{Distinct, filled, pigeonhole}
 use Rattle.lists.proofs.Members.{_∈_, _⊆_}
-use Rattle.graph.specs.Graph.{Graph, firstEnd, isTree, rowNumbers, secondEnd}
+use Rattle.graph.specs.Graph.{Graph, isTree, rowNumbers}
 use Rattle.graph.proofs.Minimal.{WellFormed, rowNumbers-in}
 use Rattle.graph.proofs.Tree.{tree-in, tree-out}
-use Rattle.forests.proofs.Closure.{joined?, joined-run, run-joined}
-use Rattle.forests.proofs.Forest.{Forest, Grown, forest-add, forest-known, forest-nil, forest-part, grow}
+use Rattle.forests.proofs.Closure.{joined-run, run-joined}
+use Rattle.forests.proofs.Forest.{Forest, Grown, forest-known, forest-nil, forest-part, grow}
 use Rattle.forests.proofs.Joined.{joined-by, joined-more}
-use Rattle.forests.proofs.Parts.{Spans, forest-size, full-spans, spans-full}
+use Rattle.forests.proofs.Parts.{Spans, full-spans, spans-full}
 
 module _ (g : Graph) (wf : WellFormed g) where
   pub tree-spans : (rs : List ℕ) → T (isTree g rs) → Spans g rs
@@ -45,20 +45,6 @@ module _ (g : Graph) (wf : WellFormed g) where
       let e = spans-full g wf ts (k .forest) (grown-spans [] rs ts k (tree-spans rs t)) in
       let s : ts ⊆ rs = λ r i. ⊎-elim (λ m. absurd (mem-nil m)) (λ m. m) (k .within r i) in
       forest-part (tree .once) (filled ℕ-discrete ts rs (k .forest .once) s (omega (arith, tree .size))) (k .forest)
-
-  pub tree-iff : (rs : List ℕ) → T (isTree g rs) ↔ (Forest g rs × Spans g rs)
-  tree-iff rs = (λ t. (tree-forest rs t, tree-spans rs t), λ p. forest-tree rs (p .0) (p .1))
-
-  -- MAXIMAL: no forest has more rows around a spanning tree
-  pub tree-maximal : (rs qs : List ℕ) → T (isTree g rs) → Forest g qs → rs ⊆ qs → qs ⊆ rs
-  tree-maximal rs qs t h s = filled ℕ-discrete rs qs (tree-out g rs t .once) s (omega (arith, tree-out g rs t .size, forest-size g wf qs h))
-
-  -- and where the graph is joined, a forest to which no row can be added is a spanning tree
-  pub maximal-tree : (rs : List ℕ) → Spans g (rowNumbers g) → Forest g rs → ((r : ℕ) → ¬ Forest g (r ∷ rs)) → T (isTree g rs)
-  maximal-tree rs s h top = forest-tree rs h (λ v m. joined-by (λ r i l. elim (joined? g rs (firstEnd g r) (secondEnd g r)) [
-    | yes j ↦ j
-    | no n ↦ absurd (top r (forest-add h l n))
-  ]) (s v m))
 
   -- distinct rows of a spanning tree that are as many are one, too
   pub tree-part : (rs qs : List ℕ) → T (isTree g rs) → Distinct qs → qs ⊆ rs → length rs ≡ length qs → T (isTree g qs)

@@ -2,10 +2,10 @@
 use mathlib.Core.Bool.{not}
 use mathlib.Core.List.{List, _∷_, map}
 use Prim.Native.Nat.{ℕ}
-use lib.Dec.{eqb, ltb}
+use lib.Dec.{eqb}
 use lib.ListN.{set}
 use Rattle.lists.specs.Lists.{filterB, pick, sum}
-use Rattle.graph.specs.Graph.{Graph, firstEnd, rowNumbers, secondEnd}
+use Rattle.graph.specs.Graph.{Graph, firstEnd, secondEnd}
 
 -- the numbers of a list but r
 unfoldable pub cut : ℕ → List ℕ → List ℕ
@@ -17,10 +17,6 @@ swap f e rs = e ∷ cut f rs
 
 abbrev pub weight : (ℕ → ℕ) → List ℕ → ℕ
 weight w rs = sum (map w rs)
-
--- the rows of the graph but e that weigh less than n
-unfoldable pub cheaper : Graph → (ℕ → ℕ) → ℕ → ℕ → List ℕ
-cheaper g w e n = cut e (filterB (λ r. ltb (w r) n) (rowNumbers g))
 
 -- one weight at e, another elsewhere
 abbrev pub extreme : (ℕ → ℕ) → (ℕ → ℕ) → ℕ → ℕ → ℕ

@@ -61,7 +61,8 @@ fn has_few_trees(file: &[u8]) -> bool {
 
 /// Front: the first vectors of the front, as many as fit, each with the first tree of the list that has it.
 pub fn front(file: &[u8], costs: &mut [u32], witnesses: &mut [u16]) -> FrontAnswer
-    ensures { λ r. ⌜ record { outcome = frontedOf r; buffers = record { costs = now (costs .exit); witnesses = now (witnesses .exit) } } ≡ frontCall (now (file .entry)) (now (costs .entry)) (now (witnesses .entry)) ⌝ }
+    ensures { λ r. ⌜ record { outcome = frontedOf r; buffers = record { costs = now (costs .exit); witnesses = now (witnesses .exit) } }
+        ≡ frontCall (now (file .entry)) (now (costs .entry)) (now (witnesses .entry)) ⌝ }
 {
     if has_few_trees(file) {
         return walked::front(file, costs, witnesses);

@@ -1,3 +1,4 @@
 pub mod Laws
 pub mod Grow
 pub mod Musts
+pub mod Leads

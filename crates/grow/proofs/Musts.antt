@@ -37,7 +37,7 @@ use Rattle.search.specs.Search.{stepIn}
 use Rattle.search.proofs.First.{Headed, first-least, first-none}
 use Rattle.paths.specs.Path.{enteredBy, extendedBy}
 use Rattle.grow.specs.Grow.{kept}
-use Rattle.grow.specs.Musts.{acceptedOf, claimedOf, earlierOf, growWith}
+use Rattle.grow.specs.Musts.{acceptedOf, claimedOf, claimingOf, earlierOf, growWith}
 use Rattle.grow.proofs.Grow.{entered-step, ready-after, step-kept}
 
 module _ {c : List ℕ} (right : Charts c) {s : State} (b : Begun (graphIn c) s) {fresh : ℕ} (ready : Ready (graphIn c) s fresh) where
@@ -265,7 +265,7 @@ module _ {c : List ℕ} (right : Charts c) {s : State} (b : Begun (graphIn c) s)
       record { legal = f .legal; passes = inr (idle z (k .node)); least = λ m l a. f .least m l tt }
 
   accepted-told : Told (acceptedOf c fresh (s .entered) (s .place) (s .node))
-  unfolding acceptedOf
+  unfolding acceptedOf claimingOf
   accepted-told = pick-elim Told (eqb (openAt mustNb fresh 0) 0) (λ t. plain-told (eqb→eq _ _ t) _ refl) (λ n. told any must refl refl)
 
   pub accepted-least : (k : Key) → acceptedOf c fresh (s .entered) (s .place) (s .node) ≡ some k
@@ -278,18 +278,22 @@ module _ {c : List ℕ} (right : Charts c) {s : State} (b : Begun (graphIn c) s)
 
 -- What the code has found is the accepted step: with no fresh node at the end of a must row, and with some
 
-module _ (c : List ℕ) (fresh : ℕ) (entered : List ℕ) (place node : ℕ) {ends : ℕ} (read : ends ≡ openAt (nearIn true c) fresh 0) {o : Option Key} where
-  pub accepted-idle : ends ≡ 0 → o ≡ stepIn c false fresh entered place node
-      → o ≡ acceptedOf c fresh entered place node
-  unfolding acceptedOf
-  accepted-idle e d = rw (← read, eq-eqb ends 0 e) d
-
-  pub accepted-claimed : {seeds claimed unclaimed : ℕ} {any must : Option Key} → ¬ (ends ≡ 0) → seeds ≡ seedsOf (nearIn true c) fresh entered place node
+module _ (c : List ℕ) (fresh : ℕ) (entered : List ℕ) (place node : ℕ) {o : Option Key} where
+  pub claiming-step : {seeds claimed unclaimed : ℕ} {any must : Option Key} → seeds ≡ seedsOf (nearIn true c) fresh entered place node
       → claimed ≡ spreadOf (nearIn true c) (limitIn c) fresh seeds → unclaimed ≡ minus fresh claimed → any ≡ stepIn c false unclaimed entered place node
       → must ≡ stepIn c true fresh entered place node → o ≡ earlierOf any must
-      → o ≡ acceptedOf c fresh entered place node
-  unfolding acceptedOf claimedOf
-  accepted-claimed n e1 e2 e3 e4 e5 d = rw (← read, ne-eqb ends 0 n, ← e1, ← e2, ← e3, ← e4, ← e5) d
+      → o ≡ claimingOf c fresh entered place node
+  unfolding claimingOf claimedOf
+  claiming-step e1 e2 e3 e4 e5 d = rw (← e1, ← e2, ← e3, ← e4, ← e5) d
+
+  module _ {ends : ℕ} (read : ends ≡ openAt (nearIn true c) fresh 0) where
+    pub accepted-idle : ends ≡ 0 → o ≡ stepIn c false fresh entered place node → o ≡ acceptedOf c fresh entered place node
+    unfolding acceptedOf
+    accepted-idle e d = rw (← read, eq-eqb ends 0 e) d
+
+    pub accepted-claimed : ¬ (ends ≡ 0) → o ≡ claimingOf c fresh entered place node → o ≡ acceptedOf c fresh entered place node
+    unfolding acceptedOf
+    accepted-claimed n d = rw (← read, ne-eqb ends 0 n) d
 
 -- A path that grows
 
@@ -373,11 +377,13 @@ module _ {c : List ℕ} (right : Charts c) where
           (grown-cons s steps keys _ k h (later k (h .legal)))
 
   -- all nodes are entered, or no step is accepted: so the steps end
-  module _ (steps : ℕ) {s : State} (b : Begun (graphIn c) s) (enough : length (graphIn c .nodes) ≤ length (s .entered) + steps) {keys answer : List Key} (o : GrownWith (graphIn c) (mustsIn c) s keys answer steps) where
+  module _ (steps : ℕ) {s : State} (b : Begun (graphIn c) s) (enough : length (graphIn c .nodes) ≤ length (s .entered) + steps) {keys answer : List Key}
+      (o : GrownWith (graphIn c) (mustsIn c) s keys answer steps) where
     abbrev end : State
     end = stateAfter s (o .more)
 
-    pub grown-ends : (graphIn c .nodes ⊆ stateAfter s (o .more) .entered) ⊎ ((m : Key) → Legal (graphIn c) (rowNumbers (graphIn c)) (stateAfter s (o .more)) m → ¬ Accepted (graphIn c) (stateAfter s (o .more)) (mustsIn c) m)
+    pub grown-ends : (graphIn c .nodes ⊆ stateAfter s (o .more) .entered)
+        ⊎ ((m : Key) → Legal (graphIn c) (rowNumbers (graphIn c)) (stateAfter s (o .more)) m → ¬ Accepted (graphIn c) (stateAfter s (o .more)) (mustsIn c) m)
     grown-ends = ⊎-elim (λ e. inl (full e)) inr (o .ends)
       where
         full : length (o .more) ≡ steps → graphIn c .nodes ⊆ end .entered

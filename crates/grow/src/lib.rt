@@ -1,14 +1,16 @@
-//! Growing a path over a chart by first steps, of any rows or so that all must rows stay in reach, and whether a step can be skipped.
+//! Growing a path over a chart by first steps, of any rows or so that all must rows stay in reach, whether a step can be skipped, and whether rows have all must rows.
 //! Each function is equal to its model in specs/Grow.antt or specs/Musts.antt.
-ghost use mathlib.Core.Bool.{false};
+ghost use mathlib.Core.Bool.{false, true};
 ghost use mathlib.Core.Path.{_≡_};
+ghost use Rattle.lists.specs.Lists.{hasAll, member, pick};
 ghost use Rattle.paths.specs.Path.{enteredBy, keysOf, plantOf};
-ghost use Rattle.chart.specs.Chart.{nearIn, plantIn};
+ghost use Rattle.chart.specs.Chart.{firstsIn, mustsIn, nearIn, plantIn};
 ghost use Rattle.graph.specs.Paths.{follows};
 ghost use Rattle.search.specs.Search.{foundOf, keyOf, stepIn};
 ghost use Rattle.spread.specs.Spread.{seedsOf};
+ghost use Rattle.states.specs.States.{mustRow};
 ghost use Rattle.grow.specs.Grow.{freshAfter, growOf, openPast};
-ghost use Rattle.grow.specs.Musts.{acceptedOf, earlierOf, firstOf, growWith};
+ghost use Rattle.grow.specs.Musts.{acceptedOf, claimingOf, earlierOf, firstOf, growWith, mustsMet};
 use paths::Path;
 use search::Found;
 use search::Step;
@@ -124,6 +126,24 @@ fn earlier(a: Found, b: Found) -> Found
     if precedes(second, first) { b } else { a }
 }
 
+// The first step by any row to a node that must rows do not lead to, or by a must row. With two callers it is compiled on its own, and what calls it stays small.
+fn claiming(
+    chart: &[u64; chart::LENGTH],
+    fresh: u64,
+    entered: &[u8],
+    place: usize,
+    node: u8,
+) -> Found
+    ensures { λ r. ⌜ foundOf r ≡ claimingOf (now (chart .entry)) fresh (now (entered .entry)) place node ⌝ }
+{
+    let seeds = spread::seeds(chart, true, fresh, entered, place, node);
+    let claimed = spread::spread(chart, true, fresh, seeds);
+    let unclaimed = words::minus(fresh, claimed);
+    let any = search::first_step(chart, false, unclaimed, entered, place, node);
+    let must = search::first_step(chart, true, fresh, entered, place, node);
+    earlier(any, must)
+}
+
 /// The first step, of the state with these nodes entered and this bound, by a must row, or by any row to a node that must rows do not lead to.
 pub fn accepted(
     chart: &[u64; chart::LENGTH],
@@ -138,12 +158,7 @@ pub fn accepted(
     if spread::open_at(chart, true, fresh, 0) == 0 {
         return search::first_step(chart, false, fresh, entered, place, node);
     }
-    let seeds = spread::seeds(chart, true, fresh, entered, place, node);
-    let claimed = spread::spread(chart, true, fresh, seeds);
-    let unclaimed = words::minus(fresh, claimed);
-    let any = search::first_step(chart, false, unclaimed, entered, place, node);
-    let must = search::first_step(chart, true, fresh, entered, place, node);
-    earlier(any, must)
+    claiming(chart, fresh, entered, place, node)
 }
 
 // The same of a path.
@@ -158,7 +173,10 @@ fn accepted_from(
 {
     let nodes = path.nodes;
     let n = path.length() + 1;
-    accepted(chart, fresh, &nodes[..n], place, node)
+    if spread::open_at(chart, true, fresh, 0) == 0 {
+        return search::first_step(chart, false, fresh, &nodes[..n], place, node);
+    }
+    claiming(chart, fresh, &nodes[..n], place, node)
 }
 
 /// A path with at most so many accepted steps more, from a bound on.
@@ -202,4 +220,51 @@ pub fn first_path(chart: &[u64; chart::LENGTH]) -> Path
     let start = Path::start(chart::plant(chart));
     let fresh = fresh_after(chart::nodes(chart), start);
     grown_with(chart, chart::width(chart), fresh, start, 0, 0)
+}
+
+// Whether a row is among the rows.
+fn among(rows: &[u16], row: usize) -> bool
+    ensures { λ r. ⌜ r ≡ member row (now (rows .entry)) ⌝ }
+{
+    let mut i: usize = 0;
+    while i < rows.len() {
+        if rows[i] as usize == row {
+            return true;
+        }
+        i += 1;
+    }
+    false
+}
+
+// Whether a row is no must row, or among the rows.
+fn dug(chart: &[u64; chart::LENGTH], rows: &[u16], row: usize) -> bool
+    ensures { λ r. ⌜ r ≡ pick (mustRow (firstsIn true (now (chart .entry))) row) (member row (now (rows .entry))) true ⌝ }
+{
+    let must = chart::is_must(chart, row);
+    if must { among(rows, row) } else { true }
+}
+
+// Whether all must rows are among the rows.
+fn musts_dug(chart: &[u64; chart::LENGTH], rows: &[u16]) -> bool
+    ensures { λ r. ⌜ r ≡ hasAll (mustsIn (now (chart .entry))) (now (rows .entry)) ⌝ }
+{
+    let count = chart::row_count(chart);
+    let mut r: usize = 0;
+    while r < count {
+        if !dug(chart, rows, r) {
+            return false;
+        }
+        r += 1;
+    }
+    true
+}
+
+/// Whether all must rows are among the rows. Where no node is at the end of a must row there is none, and no row is looked at.
+pub fn musts_met(chart: &[u64; chart::LENGTH], rows: &[u16]) -> bool
+    ensures { λ r. ⌜ r ≡ mustsMet (now (chart .entry)) (now (rows .entry)) ⌝ }
+{
+    if chart::near(chart, true, 0) == 0 {
+        return true;
+    }
+    musts_dug(chart, rows)
 }

@@ -23,7 +23,8 @@ use Rattle.completions.specs.Boxes.{inside}
 use Rattle.completions.specs.Rows.{headOf}
 use Rattle.completions.proofs.Boxes.{inside-at, inside-length}
 use Rattle.completions.proofs.Find.{Answers}
-use Rattle.completions.proofs.Least.{Asked, Box, LeastIn, Lowered, Lowest, Settled, cut, lowered-first, lowered-kept, lowered-less, lowered-none, lowest-none, lowest-some, settled-end, settled-next, settled-start}
+use Rattle.completions.proofs.Least.{Asked, Box, LeastIn, Lowered, Lowest, Settled, cut, lowered-first, lowered-kept, lowered-less}
+use Rattle.completions.proofs.Least.{lowered-none, lowest-none, lowest-some, settled-end, settled-next, settled-start}
 use Rattle.completions.proofs.NextRow.{Good, Of}
 use Rattle.completions.proofs.Search.{Within}
 use Rattle.chosen.specs.Chosen.{rowsOf, rowsOn}

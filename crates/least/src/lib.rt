@@ -30,7 +30,8 @@ fn vector_in(
     free: [u8; 256],
     limits: [u64; 4],
 ) -> Best
-    ensures { λ r. ⌜ OnGround (now (firsts .entry)) (now (seconds .entry)) limit kinds k (now (costs .entry)) (now (leads .entry)) (rowsOf musts) free limits (λ Of. Asked Of (take k limits) (leastOf k r)) ⌝ }
+    ensures { λ r. ⌜ OnGround (now (firsts .entry)) (now (seconds .entry)) limit kinds k (now (costs .entry)) (now (leads .entry)) (rowsOf musts) free limits
+        (λ Of. Asked Of (take k limits) (leastOf k r)) ⌝ }
 {
     let found = find::find(
         firsts,
@@ -77,7 +78,9 @@ fn lowered(
     start: [u64; 4],
     c: usize,
 ) -> [u64; 4]
-    ensures { λ r. ⌜ OnGround (now (firsts .entry)) (now (seconds .entry)) limit kinds k (now (costs .entry)) (now (leads .entry)) (rowsOf musts) free limits (λ Of. (c < k → Of (take k start) → T (inside (take k limits) (take k start)) → Lowest Of (take k limits) c (take k r))) ⌝ }
+    ensures { λ r. ⌜ OnGround (now (firsts .entry)) (now (seconds .entry)) limit kinds k (now (costs .entry)) (now (leads .entry)) (rowsOf musts) free limits
+        (λ Of. (c < k → Of (take k start) → T (inside (take k limits) (take k start))
+        → Lowest Of (take k limits) c (take k r))) ⌝ }
 {
     let mut v = start;
     if 4 <= c {
@@ -136,7 +139,8 @@ fn least_inside(
     free: [u8; 256],
     limits: [u64; 4],
 ) -> Best
-    ensures { λ r. ⌜ OnGround (now (firsts .entry)) (now (seconds .entry)) limit kinds k (now (costs .entry)) (now (leads .entry)) (rowsOf musts) free limits (λ Of. LeastIn Of (take k limits) (leastOf k r)) ⌝ }
+    ensures { λ r. ⌜ OnGround (now (firsts .entry)) (now (seconds .entry)) limit kinds k (now (costs .entry)) (now (leads .entry)) (rowsOf musts) free limits
+        (λ Of. LeastIn Of (take k limits) (leastOf k r)) ⌝ }
 {
     let first = vector_in(
         firsts,
@@ -213,7 +217,8 @@ fn lesser(
     limits: [u64; 4],
     best: Best,
 ) -> Best
-    ensures { λ r. ⌜ OnGround (now (firsts .entry)) (now (seconds .entry)) limit kinds k (now (costs .entry)) (now (leads .entry)) (rowsOf musts) free limits (λ Of. Lowered Of (Box (take k limits)) (Box (take k limits)) (leastOf k best) (leastOf k r)) ⌝ }
+    ensures { λ r. ⌜ OnGround (now (firsts .entry)) (now (seconds .entry)) limit kinds k (now (costs .entry)) (now (leads .entry)) (rowsOf musts) free limits
+        (λ Of. Lowered Of (Box (take k limits)) (Box (take k limits)) (leastOf k best) (leastOf k r)) ⌝ }
 {
     if best.some {} else {
         return least_inside(
@@ -324,7 +329,8 @@ pub fn least(
     from: [u64; 4],
     start: Best,
 ) -> Best
-    ensures { λ r. ⌜ OnGround (now (firsts .entry)) (now (seconds .entry)) limit kinds k (now (costs .entry)) (now (leads .entry)) (rowsOf musts) free limits (λ Of. Lowered Of (Open (knownRows k (now (known .entry))) (take k limits)) (Region (knownRows k (now (known .entry))) from (take k limits)) (leastOf k start) (leastOf k r)) ⌝ }
+    ensures { λ r. ⌜ OnGround (now (firsts .entry)) (now (seconds .entry)) limit kinds k (now (costs .entry)) (now (leads .entry)) (rowsOf musts) free limits
+        (λ Of. Lowered Of (Open (knownRows k (now (known .entry))) (take k limits)) (Region (knownRows k (now (known .entry))) from (take k limits)) (leastOf k start) (leastOf k r)) ⌝ }
 {
     let mut best = start;
     let mut lows = from;

@@ -1,23 +1,18 @@
--- What `listed` comes to by Open's answer and the first path (`listed-stops`, `listed-short`, `listed-lost`, `listed-some`), and what its callers learn from its answer:
+-- What `listed` comes to by Open's answer and the first path (`listed-stops`, `listed-none`, `listed-some`), and what its callers learn from its answer:
 -- of the file (`Lists`), and of the chart that they lent (`Listing`).
 use mathlib.Core.Path.{_∙_, _≡_, ap, refl, subst, sym}
+use mathlib.Core.Logic.{⊎-elim}
 use mathlib.Core.Bool.{false, true}
 use mathlib.Core.Option.{none, some}
-use mathlib.Core.List.{List, [], _∷_, map, List·Memᴰ·head as here}
+use mathlib.Core.List.{List, [], _∷_, List·Memᴰ·head as here}
 use Prim.Native.Nat.{_-_, ℕ}
 use native.Mathlib.Omega.{arith}
-use lib.Dec.{eqb, eqb→eq}
-use lib.ListN.{length}
-use borrow.Author.Tests.{eq-eqb, ne-eqb}
-use Rattle.lists.specs.Lists.{both, hasAll}
-use Rattle.lists.proofs.Members.{_∈_, hasAll-in, hasAll-out}
-use Rattle.lists.proofs.Tests.{T-both, T-same, T-true, eq→eqb}
-use Rattle.graph.specs.Paths.{Key}
+use Rattle.lists.proofs.Members.{_∈_}
+use Rattle.lists.proofs.Tests.{T-false, T-same, T-true, decide}
 use Rattle.checks.specs.Checks.{answered, firstUnmet, refused}
 use Rattle.checks.proofs.Checks.{firstUnmet-append, firstUnmet-met, firstUnmet-unmet, met-all}
 use Rattle.checks.proofs.Ended.{checked-answered, checked-met, checked-refused, checked-unmet, firstUnmet-stops, unmet-parts}
 use Rattle.costs.specs.Layouts.{mustRows}
-use Rattle.bounds.proofs.Missing.{rows-map}
 use Rattle.network_file.specs.File.{Sizes, fileChecks, networkOf, openOf, sizesOf}
 use Rattle.network_file.proofs.Accepted.{Accepted, accepted}
 use Rattle.network_file.proofs.Opened.{open-answered, open-refused}
@@ -28,24 +23,19 @@ use Rattle.operations.proofs.Exists.{some-in, some-out}
 use Rattle.chart.specs.Chart.{Blank, fileChartOn, graphIn, limitIn, listIn, mustsIn, nodesIn, plantIn, widthIn}
 use Rattle.chart.proofs.Charts.{Charts}
 use Rattle.chart.proofs.Files.{file-charts, file-graph, file-limit, file-list, file-musts, file-nodes, file-plant, file-width}
-use Rattle.grow.specs.Musts.{firstOf}
-use Rattle.walk.proofs.Behind.{some-path}
+use Rattle.paths.specs.Path.{keysOf}
+use Rattle.grow.proofs.Leads.{MustsLead, file-leads}
+use Rattle.walk.specs.Walk.{firstIn, nextOf}
+use Rattle.walk.specs.declared.Next.{Next}
+use Rattle.walk.proofs.Behind.{first-none, first-some}
 use Rattle.listed.specs.Listed.{listedCall, listedChecks}
 use Rattle.words.specs.Words.{upTo}
 
--- A TREE EXISTS exactly if the first path has all steps and all must rows
-some-test : {c : List ℕ} → Charts c → someTree (listIn c) ≡ both (eqb (length (firstOf c)) (widthIn c)) (hasAll (mustsIn c) (map (λ (k : Key). k .row) (firstOf c)))
-some-test {c} right =
-    let (there, back) = some-path right in
-    let long = eqb (length (firstOf c)) (widthIn c) in
-    let rows = map (λ (k : Key). k .row) (firstOf c) in
-    T-same (someTree (listIn c)) (both long (hasAll (mustsIn c) rows))
-    (λ t.
-    let (e, all) = there (some-out (listIn c) t) in
-    T-both long (hasAll (mustsIn c) rows) .1 (eq→eqb _ _ e, hasAll-in (mustsIn c) rows (rw (← rows-map (firstOf c)) all)))
-    (λ t.
-    let (e, all) = T-both long (hasAll (mustsIn c) rows) .0 t in
-    some-in (back (eqb→eq _ _ e, rw (← rows-map (firstOf c)) at (hasAll-out (mustsIn c) rows all)) .1))
+-- A TREE EXISTS exactly if a first path is answered
+pub some-first : {c : List ℕ} → Charts c → MustsLead c → (n : Next) → nextOf n ≡ firstIn c → someTree (listIn c) ≡ n .some
+some-first {c} right lead n e = T-same (someTree (listIn c)) (n .some)
+    (λ t. let (p, m) = some-out (listIn c) t in ⊎-elim (λ s. s) (λ f. absurd (first-none right (sym e ∙ (rw (T-false (n .some) .0 f))) p m)) (decide (n .some)))
+    (λ t. some-in (first-some right lead (keysOf (n .path)) (sym e ∙ (rw (T-true (n .some) .0 t))) .1 .listed))
 
 -- By Open's answer
 
@@ -69,25 +59,21 @@ module _ (f : List ℕ) where
     unfolding listedCall
     none-listed e = sym (checked-unmet (listedChecks f) _ 12 (last ∙ firstUnmet-unmet (check 12 (someTree (layoutsIn f))) [] e))
 
-    -- the path that the code has grown over the chart that it has made
-    module _ (c₀ c : List ℕ) (keys : List Key) (made : c ≡ fileChartOn f c₀) (grown : keys ≡ firstOf c) (empty : Blank c₀) where
-      test : someTree (layoutsIn f) ≡ both (eqb (length keys) (widthIn c)) (hasAll (mustsIn c) (map (λ (k : Key). k .row) keys))
+    -- the first path that the code has found over the chart that it has made
+    module _ (c₀ c : List ℕ) (n : Next) (made : c ≡ fileChartOn f c₀) (found : nextOf n ≡ firstIn c) (empty : Blank c₀) where
+      test : someTree (layoutsIn f) ≡ n .some
       test =
           let a = accepted f met in
-          rw (grown, made) (ap someTree (sym (file-list f a c₀ empty)) ∙ some-test (file-charts f a c₀ empty))
+          ap someTree (sym (file-list f a c₀ empty)) ∙ some-first (file-charts f a c₀ empty) (file-leads f a c₀ empty) n (found ∙ ap firstIn made)
 
-      pub listed-short : ¬ (length keys ≡ widthIn c) → refused 12 ≡ listedCall f
-      listed-short n = none-listed (test ∙ (rw (ne-eqb _ _ n)))
+      pub listed-none : n .some ≡ false → refused 12 ≡ listedCall f
+      listed-none e = none-listed (test ∙ e)
 
-      module _ (long : length keys ≡ widthIn c) where
-        pub listed-lost : hasAll (mustsIn c) (map (λ (k : Key). k .row) keys) ≡ false → refused 12 ≡ listedCall f
-        listed-lost e = none-listed (test ∙ (rw (eq-eqb _ _ long, e)))
-
-        pub listed-some : hasAll (mustsIn c) (map (λ (k : Key). k .row) keys) ≡ true → answered s ≡ listedCall f
-        unfolding listedCall firstUnmet
-        listed-some e =
-            ap answered (sym (open-answered f s opened .1))
-            ∙ sym (checked-met (listedChecks f) _ (last ∙ firstUnmet-met (check 12 (someTree (layoutsIn f))) [] (test ∙ (rw (eq-eqb _ _ long, e)))))
+      pub listed-some : n .some ≡ true → answered s ≡ listedCall f
+      unfolding listedCall firstUnmet
+      listed-some e =
+          ap answered (sym (open-answered f s opened .1))
+          ∙ sym (checked-met (listedChecks f) _ (last ∙ firstUnmet-met (check 12 (someTree (layoutsIn f))) [] (test ∙ e)))
 
 -- By its answer
 

@@ -1,2 +1,1 @@
-pub mod Musts
 pub mod Answers

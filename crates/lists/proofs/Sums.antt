@@ -57,8 +57,3 @@ module _ (b d : ℕ → ℕ) where
   unfolding sum
   sum-larger [] h = omega arith
   sum-larger (v ∷ vs) h = omega (arith, h v (here refl), sum-larger vs (λ u m. h u (there m)))
-
-  pub largest-larger : (vs : List ℕ) → ((v : ℕ) → v ∈ vs → b v ≤ d v) → largest (map b vs) ≤ largest (map d vs)
-  unfolding largest
-  largest-larger [] h = omega arith
-  largest-larger (v ∷ vs) h = omega (arith, h v (here refl), largest-larger vs (λ u m. h u (there m)))

@@ -19,7 +19,8 @@ use Rattle.checks.proofs.Ended.{checked-answered}
 use Rattle.checks.specs.Checks.{Check, Outcome, answered, checked, firstUnmet}
 use Rattle.costs.specs.Network.{Row}
 use Rattle.network_file.proofs.Accepted.{file-length, version-2}
-use Rattle.network_file.specs.File.{Sizes, bodyMet, byteAt, costsMet, costsSound, endsMet, endsSound, fileChecks, isKind, isState, kindBytes, kindOf, kindsMet, lengthField, lengthMet, networkOf, openOf, rowBytes, rowIn, rowStart, sizesMet, sizesOf, sizesSound, stateByte, stateOf, stateWidth, statesMet, u32At, version, within}
+use Rattle.network_file.specs.File.{Sizes, bodyMet, byteAt, costsMet, costsSound, endsMet, endsSound, fileChecks, isKind, isState, kindBytes, kindOf, kindsMet, lengthField, lengthMet}
+use Rattle.network_file.specs.File.{networkOf, openOf, rowBytes, rowIn, rowStart, sizesMet, sizesOf, sizesSound, stateByte, stateOf, stateWidth, statesMet, u32At, version, within}
 use Rattle.fields.specs.declared.Header.{Header}
 use Rattle.network.specs.Answers.{openIf, openedOf}
 use Rattle.network.specs.Rows.{Fitting, costsFrom}

@@ -20,8 +20,9 @@ use Rattle.lists.proofs.Tests.{T-both, T-either, T-true, pick-elim}
 use Rattle.checks.specs.Checks.{Check, firstUnmet}
 use Rattle.checks.proofs.Checks.{met-all}
 use Rattle.costs.specs.Costs.{costAt}
-use Rattle.costs.specs.Network.{Kind, Row, added, noRow, «open», rowAt}
-use Rattle.network_file.specs.File.{bodyMet, byteAt, consKind, costsMet, costsSound, endsMet, endsSound, fileChecks, isKind, isState, kindBytes, kindOf, kindsMet, kindsOf, lengthField, lengthMet, networkOf, rowBytes, rowIn, rowStart, sizesMet, sizesOf, stateByte, stateOf, stateOr, stateWidth, statesMet, version, versionMet, within}
+use Rattle.costs.specs.Network.{Kind, Row, added, noRow, rowAt}
+use Rattle.network_file.specs.File.{bodyMet, byteAt, consKind, costsMet, costsSound, endsMet, endsSound, fileChecks, isKind, isState, kindBytes, kindOf, kindsMet, kindsOf, lengthField}
+use Rattle.network_file.specs.File.{lengthMet, networkOf, rowBytes, rowIn, rowStart, sizesMet, sizesOf, stateByte, stateOf, stateOr, stateWidth, statesMet, version, versionMet, within}
 
 -- both ends of a row are nodes, and they differ
 pub record EndsIn (n : ℕ) (row : Row) : Type 0 where
@@ -49,11 +50,6 @@ pub record Accepted (f : List ℕ) : Type 0 where
 pub state-width : (f : List ℕ) → stateWidth f ≤ 1
 unfolding stateWidth
 state-width f = pick-elim (λ (x : ℕ). x ≤ 1) (eqb (version f) 2) (λ t. omega arith) (λ t. omega arith)
-
--- the rows of a file of version 1 are open
-pub version-1 : (f : List ℕ) → version f ≡ 1 → (stateWidth f ≡ 0) × ((r : ℕ) → rowIn f r .state ≡ «open»)
-unfolding stateWidth rowIn stateByte stateOf
-version-1 f e = (rw e, λ r. rw e)
 
 pub version-2 : (f : List ℕ) → version f ≡ 2 → (stateWidth f ≡ 1) × ((r : ℕ) → rowIn f r .state ≡ stateOr (stateOf (byteAt f (rowStart f r + 4))))
 unfolding stateWidth rowIn stateByte

@@ -59,7 +59,8 @@ module _ (office : ℕ) (counts : Counts) (lent : FrontTables) (v p : List ℕ) 
       } ≡ noteCall office counts lent (record { vector = v; path = p })
   unfolding noteCall
   second-noted n is said =
-      rw (said, behind (lent .costs) a, behind (lent .witnesses) b, append-nil (end .costs), append-nil (end .witnesses), is, tree-is, whole (lent .costs) a, whole (lent .witnesses) b, ne-eqb office 1 n)
+      rw (said, behind (lent .costs) a, behind (lent .witnesses) b, append-nil (end .costs), append-nil (end .witnesses), is, tree-is)
+      (rw (whole (lent .costs) a, whole (lent .witnesses) b, ne-eqb office 1 n))
 
 -- Of tables of exactly 2 × h rows
 
@@ -116,8 +117,10 @@ module _ (h : ℕ) (counts : Counts) (lent : FrontTables) (v p : List ℕ) (some
     same-rows : written k w h x rows lent ≡ lent
     same-rows =
         let few = count-few g x in
-        let of-costs : costsOver rows costs ≡ costs = over-whole vectorOf k rows count costs (omega (arith, costs-long, mul-le-mul-right {m = count} {n = h} k few)) (vectors-are k w costs witnesses count) in
-        let of-witnesses : witnessesOver rows witnesses ≡ witnesses = over-whole pathOf w rows count witnesses (omega (arith, witnesses-long, mul-le-mul-right {m = count} {n = h} w few)) (paths-are k w costs witnesses count) in
+        let of-costs : costsOver rows costs ≡ costs =
+        over-whole vectorOf k rows count costs (omega (arith, costs-long, mul-le-mul-right {m = count} {n = h} k few)) (vectors-are k w costs witnesses count) in
+        let of-witnesses : witnessesOver rows witnesses ≡ witnesses =
+        over-whole pathOf w rows count witnesses (omega (arith, witnesses-long, mul-le-mul-right {m = count} {n = h} w few)) (paths-are k w costs witnesses count) in
         rw (of-costs, of-witnesses, part-back (h * k) (lent .costs) x, part-back (h * w) (lent .witnesses) x)
 
     -- entering goes by whether a row meets the vector, and by the rows there would be

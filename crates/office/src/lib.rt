@@ -87,7 +87,9 @@ fn note(
     vector: &[u32],
     path: Path,
 ) -> OfficeAnswer
-    ensures { λ r. ⌜ record { outcome = notedOf r; buffers = record { costs = now (costs .exit); witnesses = now (witnesses .exit) } } ≡ noteCall office (record { first = first; second = second }) (record { costs = now (costs .entry); witnesses = now (witnesses .entry) }) (record { vector = now (vector .entry); path = rowsIn path }) ⌝ }
+    ensures { λ r. ⌜ record { outcome = notedOf r; buffers = record { costs = now (costs .exit); witnesses = now (witnesses .exit) } }
+        ≡ noteCall office (record { first = first; second = second })
+        (record { costs = now (costs .entry); witnesses = now (witnesses .entry) }) (record { vector = now (vector .entry); path = rowsIn path }) ⌝ }
 {
     let rows = path.rows;
     let w = path.length();
@@ -114,7 +116,8 @@ pub fn office(
     first: usize,
     second: usize,
 ) -> OfficeAnswer
-    ensures { λ r. ⌜ record { outcome = notedOf r; buffers = record { costs = now (costs .exit); witnesses = now (witnesses .exit) } } ≡ officeCall (now (file .entry)) (now (rows .entry)) office h (record { first = first; second = second }) (record { costs = now (costs .entry); witnesses = now (witnesses .entry) }) ⌝ }
+    ensures { λ r. ⌜ record { outcome = notedOf r; buffers = record { costs = now (costs .exit); witnesses = now (witnesses .exit) } }
+        ≡ officeCall (now (file .entry)) (now (rows .entry)) office h (record { first = first; second = second }) (record { costs = now (costs .entry); witnesses = now (witnesses .entry) }) ⌝ }
 {
     let drawn = drawn::drawn(file, rows);
     let number = drawn.number;

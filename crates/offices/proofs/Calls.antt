@@ -26,7 +26,8 @@ use Rattle.network_file.specs.File.{fileChecks, networkOf, sizesOf}
 use Rattle.network_file.proofs.Accepted.{Accepted, accepted}
 use Rattle.operations.specs.Operations.{FrontTables, check, drawnChecks, graphIn, treeChecks}
 use Rattle.operations.proofs.Files.{formed}
-use Rattle.offices.specs.Offices.{Counts, Half, Noted, countOf, entryOf, filledIn, firstHalf, fitsIn, halfOf, halfRows, noteOf, officeCall, officeChecks, partOf, rowsAfter, secondHalf, tablesFit, written}
+use Rattle.offices.specs.Offices.{Counts, Half, Noted, countOf, entryOf, filledIn, firstHalf, fitsIn, halfOf, halfRows}
+use Rattle.offices.specs.Offices.{noteOf, officeCall, officeChecks, partOf, rowsAfter, secondHalf, tablesFit, written}
 use Rattle.offices.specs.Sequences.{countsAfter, officeOf, other, ownCall, ownChecks, withCount}
 use Rattle.offices.proofs.Parts.{after-costs, after-rows, after-witnesses, count-other, count-same, part-long, part-other, part-same, with-long}
 
@@ -119,7 +120,11 @@ module _ (k w h : ℕ) (x : Half) (counts : Counts) (lent : FrontTables) (g : Go
     outcome = refl;
     rows = rw (count-same x (length new) counts, part-same (h * k) (lent .costs) (g .costs) newCosts costs-long x, part-same (h * w) (lent .witnesses) (g .witnesses) newWitnesses witnesses-long x)
         (after-rows k w h (countOf x counts) (partOf x (h * k) (lent .costs)) (partOf x (h * w) (lent .witnesses)) costs-half witnesses-half (count-few g x) e vector path);
-    other-rows = rw (count-other x (length new) counts, part-other (h * k) (lent .costs) (g .costs) newCosts costs-long x, part-other (h * w) (lent .witnesses) (g .witnesses) newWitnesses witnesses-long x);
+    other-rows = rw (
+      count-other x (length new) counts,
+      part-other (h * k) (lent .costs) (g .costs) newCosts costs-long x,
+      part-other (h * w) (lent .witnesses) (g .witnesses) newWitnesses witnesses-long x,
+    );
     other-costs = part-other (h * k) (lent .costs) (g .costs) newCosts costs-long x;
     other-witnesses = part-other (h * w) (lent .witnesses) (g .witnesses) newWitnesses witnesses-long x;
     good = good-count (record {
@@ -184,7 +189,8 @@ named secondHalf = tt
 
 -- One call
 
-module _ (f : List ℕ) (ok : firstUnmet (fileChecks f) ≡ none) (h : ℕ) (pos : 0 < h) (drawn : List ℕ) (counts : Counts) (lent : FrontTables) (g : Good (sizesOf f .k) (width (graphIn f)) h counts lent) where
+module _ (f : List ℕ) (ok : firstUnmet (fileChecks f) ≡ none) (h : ℕ) (pos : 0 < h) (drawn : List ℕ) (counts : Counts) (lent : FrontTables)
+    (g : Good (sizesOf f .k) (width (graphIn f)) h counts lent) where
   abbrev k : ℕ
   k = sizesOf f .k
 
@@ -207,7 +213,8 @@ module _ (f : List ℕ) (ok : firstUnmet (fileChecks f) ≡ none) (h : ℕ) (pos
   unfolding officeCall ownCall ownChecks
   step x = elim (none-or-some (firstUnmet (ownChecks (networkOf f) h rows₀ drawn))) [
     | inr (e, q) ↦ subst (λ (c : Ended Noted FrontTables). Stepped k w h x counts lent c mine) (sym (ended-unmet (officeChecks f drawn (officeOf x) h counts lent) _ lent _ e (same-checks x ∙ q)))
-        (subst (Stepped k w h x counts lent (record { outcome = refused e; buffers = lent })) (sym (ended-unmet (ownChecks (networkOf f) h rows₀ drawn) _ rows₀ _ e q)) (stepped-refused k w h x counts lent g e))
+        (subst (Stepped k w h x counts lent (record { outcome = refused e; buffers = lent })) (sym (ended-unmet (ownChecks (networkOf f) h rows₀ drawn) _ rows₀ _ e q))
+        (stepped-refused k w h x counts lent g e))
     | inl q ↦
         let (of-drawn, last) = unmet-parts (drawnChecks (networkOf f) drawn) (check 24 (fitsIn h rows₀ entry) ∷ []) q in
         let file = accepted f ok in

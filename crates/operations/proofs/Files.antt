@@ -7,7 +7,7 @@ use lib.ListN.{length}
 use Rattle.lists.proofs.Ranges.{range-length}
 use Rattle.graph.proofs.Minimal.{WellFormed}
 use Rattle.graph.proofs.Parts.{Part}
-use Rattle.costs.proofs.Layouts.{layouts-listed, layouts-part, open-formed}
+use Rattle.costs.proofs.Layouts.{layouts-part, open-formed}
 use Rattle.costs.proofs.Networks.{network-formed}
 use Rattle.network_file.specs.File.{networkOf, sizesOf}
 use Rattle.network_file.proofs.Accepted.{Accepted}
@@ -29,9 +29,6 @@ module _ (f : List ℕ) (a : Accepted f) where
   -- the network's trees are a part of the list of either graph, in its order
   pub layouts-in : Part (graphIn f) (layoutsIn f)
   layouts-in = layouts-part (networkOf f)
-
-  pub layouts-open-in : Part (openIn f) (layoutsIn f)
-  layouts-open-in = layouts-listed (networkOf f) formed
 
   -- there is a node besides the plant, so a tree has a row
   pub wide : 0 < pred (length (graphIn f .nodes))

@@ -1,9 +1,9 @@
--- Page's checks, one after the other: what the call comes to where the first is not met (`page-listed`, `page-short`, `page-start`), and
+-- Page's checks, one after the other: what the call comes to where the first is not met (`page-open`, `page-none`, `page-short`, `page-start`), and
 -- where all are met (`page-met`). Of a start: its checks by the answer to its rows as drawn (`start-drawn`, `start-path`), which are tried in a chart (`start-tried`).
 use mathlib.Core.Path.{_∙_, _≡_, ap, refl, subst, sym}
-use mathlib.Core.Bool.{Bool}
+use mathlib.Core.Bool.{Bool, false, true}
 use mathlib.Core.Option.{Option·some-injective, none, some}
-use mathlib.Core.List.{List, [], _++_, _∷_, append-assoc, List·Memᴰ·head as here, List·Memᴰ·tail as there}
+use mathlib.Core.List.{List, [], _++_, _∷_, List·Memᴰ·head as here, List·Memᴰ·tail as there}
 use Prim.Native.Nat.{_<_, _≤_, ℕ}
 use native.Mathlib.Omega.{arith}
 use lib.Dec.{T, leb}
@@ -29,14 +29,14 @@ use Rattle.costs.specs.Network.{Network}
 use Rattle.costs.proofs.Layouts.{layouts-mem}
 use Rattle.network_file.specs.File.{fileChecks, networkOf, openOf, sizesOf}
 use Rattle.network_file.proofs.Accepted.{accepted}
-use Rattle.listed.specs.Listed.{listedChecks}
 use Rattle.operations.proofs.Files.{formed}
 use Rattle.operations.specs.Operations.{check, drawnChecks, graphIn, layoutsIn, pageCall, pageChecks, someTree, startChecks, treeChecks}
 use Rattle.pages.proofs.TreePages.{Starts}
 use Rattle.pages.specs.Pages.{restAfter}
 use Rattle.paths.specs.Path.{rowsIn}
 use Rattle.page.specs.Answers.{numbered}
-use Rattle.page.specs.Walkable.{ChartOf, filledBy}
+use Rattle.fill.specs.Walkable.{filledBy}
+use Rattle.page.specs.Beginning.{ChartOf}
 
 -- The start
 
@@ -99,32 +99,39 @@ module _ (f page start : List ℕ) where
   abbrev after12 : List Check
   after12 = check 11 (leb (width (graphIn f)) (length page)) ∷ startChecks (networkOf f) start
 
-  table : pageChecks f page start ≡ listedChecks f ++ after12
-  unfolding pageChecks
-  table = sym (append-assoc (fileChecks f) (check 12 (someTree (layoutsIn f)) ∷ []) after12)
+  abbrev after-open : List Check
+  after-open = check 12 (someTree (layoutsIn f)) ∷ after12
 
   refuses : (e : ℕ) → firstUnmet (pageChecks f page start) ≡ some e → record { outcome = refused e; buffers = page } ≡ pageCall f page start
   unfolding pageCall
   refuses e h = sym (ended-unmet (pageChecks f page start) _ page _ e h)
 
-  -- Open's checks, and 12
-  pub page-listed : (e : ℕ) → firstUnmet (listedChecks f) ≡ some e → record { outcome = refused e; buffers = page } ≡ pageCall f page start
-  page-listed e h = refuses e (ap firstUnmet table ∙ firstUnmet-stops (listedChecks f) after12 e h)
+  pub page-open : (e : ℕ) → firstUnmet (fileChecks f) ≡ some e → record { outcome = refused e; buffers = page } ≡ pageCall f page start
+  unfolding pageChecks
+  page-open e h = refuses e (firstUnmet-stops (fileChecks f) after-open e h)
 
-  module _ (met : firstUnmet (listedChecks f) ≡ none) where
-    tree-met : firstUnmet (pageChecks f page start) ≡ firstUnmet after12
-    tree-met = ap firstUnmet table ∙ firstUnmet-append (listedChecks f) after12 met
+  module _ (met : firstUnmet (fileChecks f) ≡ none) where
+    open-met : firstUnmet (pageChecks f page start) ≡ firstUnmet after-open
+    unfolding pageChecks
+    open-met = firstUnmet-append (fileChecks f) after-open met
 
-    pub page-short : length page < width (graphIn f) → record { outcome = refused 11; buffers = page } ≡ pageCall f page start
-    page-short short = refuses 11 (tree-met ∙ firstUnmet-unmet _ (startChecks (networkOf f) start) (lt-leb _ _ short))
+    pub page-none : someTree (layoutsIn f) ≡ false → record { outcome = refused 12; buffers = page } ≡ pageCall f page start
+    page-none e = refuses 12 (open-met ∙ firstUnmet-unmet (check 12 (someTree (layoutsIn f))) after12 e)
 
-    module _ (room : width (graphIn f) ≤ length page) where
-      room-met : firstUnmet (pageChecks f page start) ≡ firstUnmet (startChecks (networkOf f) start)
-      room-met = tree-met ∙ firstUnmet-met _ (startChecks (networkOf f) start) (le-leb _ _ room)
+    module _ (tree : someTree (layoutsIn f) ≡ true) where
+      tree-met : firstUnmet (pageChecks f page start) ≡ firstUnmet after12
+      tree-met = open-met ∙ firstUnmet-met (check 12 (someTree (layoutsIn f))) after12 tree
 
-      pub page-start : (e : ℕ) → firstUnmet (startChecks (networkOf f) start) ≡ some e → record { outcome = refused e; buffers = page } ≡ pageCall f page start
-      page-start e h = refuses e (room-met ∙ h)
+      pub page-short : length page < width (graphIn f) → record { outcome = refused 11; buffers = page } ≡ pageCall f page start
+      page-short short = refuses 11 (tree-met ∙ firstUnmet-unmet _ (startChecks (networkOf f) start) (lt-leb _ _ short))
 
-      pub page-met : firstUnmet (startChecks (networkOf f) start) ≡ none → filledBy (width (graphIn f)) page (restAfter (layoutsIn f) start) ≡ pageCall f page start
-      unfolding pageCall
-      page-met h = sym (ended-met (pageChecks f page start) _ page _ (room-met ∙ h))
+      module _ (room : width (graphIn f) ≤ length page) where
+        room-met : firstUnmet (pageChecks f page start) ≡ firstUnmet (startChecks (networkOf f) start)
+        room-met = tree-met ∙ firstUnmet-met _ (startChecks (networkOf f) start) (le-leb _ _ room)
+
+        pub page-start : (e : ℕ) → firstUnmet (startChecks (networkOf f) start) ≡ some e → record { outcome = refused e; buffers = page } ≡ pageCall f page start
+        page-start e h = refuses e (room-met ∙ h)
+
+        pub page-met : firstUnmet (startChecks (networkOf f) start) ≡ none → filledBy (width (graphIn f)) page (restAfter (layoutsIn f) start) ≡ pageCall f page start
+        unfolding pageCall
+        page-met h = sym (ended-met (pageChecks f page start) _ page _ (room-met ∙ h))

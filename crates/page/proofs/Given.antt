@@ -1,45 +1,80 @@
--- What `page` learns from Open and 12 of the chart: its trees can be listed (`walk-given`), from a start that meets its checks (`start-given`), and a page that is
--- filled with them answers Page's call (`page-given`).
+-- What the chart of a file tells `page`: it is right, with the network's width and list (`right-given`, `leads-given`, `width-read`, `list-read`); where there is a tree its trees
+-- can be listed (`walk-given`), from a start that meets its checks on (`start-given`), as one of the list does (`listed-met`); and a page that is filled with them answers
+-- Page's call (`page-given`).
 use mathlib.Core.Path.{_∙_, _≡_, ap, subst, sym}
+use mathlib.Core.Bool.{true}
 use mathlib.Core.Option.{none}
 use mathlib.Core.List.{List}
 use Prim.Native.Nat.{_≤_, pred, ℕ}
 use native.Mathlib.Omega.{arith}
 use lib.ListN.{length}
+use Rattle.lists.proofs.Members.{_∈_}
+use Rattle.lists.proofs.Tests.{T-true}
 use Rattle.checks.specs.Checks.{Ended, firstUnmet}
+use Rattle.chart.proofs.Charts.{Charts}
+use Rattle.chart.proofs.Files.{file-charts, file-list, file-width}
 use Rattle.chart.specs.Chart.{listIn, widthIn}
 use Rattle.graph.specs.Graph.{width}
-use Rattle.listed.proofs.Answers.{Listing}
-use Rattle.network_file.specs.File.{Sizes, networkOf}
-use Rattle.operations.proofs.Files.{node-count}
-use Rattle.operations.specs.Operations.{Paged, graphIn, layoutsIn, pageCall, startChecks}
+use Rattle.grow.proofs.Leads.{MustsLead, file-leads}
+use Rattle.network_file.proofs.Accepted.{Accepted, accepted}
+use Rattle.network_file.specs.File.{networkOf}
+use Rattle.operations.proofs.Exists.{some-in, some-out}
+use Rattle.operations.proofs.Files.{formed, node-count}
+use Rattle.operations.proofs.Runs.{listed-passes}
+use Rattle.operations.specs.Operations.{Paged, graphIn, layoutsIn, pageCall, someTree, startChecks}
 use Rattle.pages.proofs.TreePages.{Starts}
 use Rattle.pages.specs.Pages.{restAfter}
-use Rattle.page.specs.Walkable.{Walkable, filledBy}
+use Rattle.fill.specs.Walkable.{Walkable, filledBy}
+use Rattle.page.specs.Beginning.{ChartOf}
 use Rattle.page.proofs.Checks.{page-met, start-listed}
 
-module _ {f c : List ℕ} {h : Sizes} (l : Listing f h c) where
-  nodes-read : h .n ≡ length (graphIn f .nodes)
-  nodes-read = ap (λ (s : Sizes). s .n) (l .lists .sizes) ∙ sym (node-count f)
+module _ {f c : List ℕ} (o : ChartOf f c) where
+  file : Accepted f
+  file = accepted f (o .met)
+
+  pub right-given : Charts c
+  right-given = rw (o .made) (file-charts f file (o .lent) (o .empty))
+
+  pub leads-given : MustsLead c
+  leads-given = rw (o .made) (file-leads f file (o .lent) (o .empty))
+
+  pub list-read : listIn c ≡ layoutsIn f
+  list-read = ap listIn (o .made) ∙ file-list f file (o .lent) (o .empty)
 
   pub width-read : widthIn c ≡ width (graphIn f)
-  width-read = let w : widthIn c ≡ pred (length (graphIn f .nodes)) = omega (arith, l .width, nodes-read) in w
+  width-read =
+      let w : widthIn c ≡ pred (length (graphIn f .nodes)) = omega (arith, ap widthIn (o .made), file-width f file (o .lent) (o .empty), node-count f) in w
 
-  pub walk-given : Walkable c
-  walk-given = record {
-    right = l .right;
-    several = omega (arith, l .width, nodes-read, node-count f, l .lists .file .nodes-low);
-    tree = l .some-tree .0;
-    listed = l .some-tree .1;
-  }
+  pub walk-given : someTree (layoutsIn f) ≡ true → Walkable c
+  walk-given e =
+      let (tree, listed) = some-out (layoutsIn f) (T-true _ .1 e) in
+      record {
+        right = right-given;
+        several = omega (arith, ap widthIn (o .made), file-width f file (o .lent) (o .empty), file .nodes-low);
+        tree = tree;
+        listed = subst (λ (l : List (List ℕ)). tree ∈ l) (sym list-read) listed;
+      }
 
-  module _ (start : List ℕ) (ok : firstUnmet (startChecks (networkOf f) start) ≡ none) where
-    pub start-given : Starts (listIn c) start
-    start-given = subst (λ (L : List (List ℕ)). Starts L start) (sym (l .list)) (start-listed f (l .lists .met) start ok)
+  module _ (start : List ℕ) where
+    -- a start of the list
+    module _ (m : start ∈ listIn c) where
+      in-network : start ∈ layoutsIn f
+      in-network = subst (λ (l : List (List ℕ)). start ∈ l) list-read m
 
-    pub page-given : (page : List ℕ) (a : Ended Paged (List ℕ)) → widthIn c ≤ length page → a ≡ filledBy (widthIn c) page (restAfter (listIn c) start)
-        → a ≡ pageCall f page start
-    page-given page a room e =
-        e ∙ ap (λ (L : List (List ℕ)). filledBy (widthIn c) page (restAfter L start)) (l .list)
-        ∙ ap (λ (w : ℕ). filledBy w page (restAfter (layoutsIn f) start)) width-read
-        ∙ page-met f page start (l .lists .all) (rw (← width-read) room) ok
+      pub listed-tree : someTree (layoutsIn f) ≡ true
+      listed-tree = T-true _ .0 (some-in in-network)
+
+      pub listed-met : firstUnmet (startChecks (networkOf f) start) ≡ none
+      listed-met = listed-passes (networkOf f) (formed f file) start in-network
+
+    -- a start that meets its checks
+    module _ (ok : firstUnmet (startChecks (networkOf f) start) ≡ none) where
+      pub start-given : Starts (listIn c) start
+      start-given = subst (λ (L : List (List ℕ)). Starts L start) (sym list-read) (start-listed f (o .met) start ok)
+
+      pub page-given : (page : List ℕ) (a : Ended Paged (List ℕ)) → someTree (layoutsIn f) ≡ true → widthIn c ≤ length page
+          → a ≡ filledBy (widthIn c) page (restAfter (listIn c) start) → a ≡ pageCall f page start
+      page-given page a tree room e =
+          e ∙ ap (λ (L : List (List ℕ)). filledBy (widthIn c) page (restAfter L start)) list-read
+          ∙ ap (λ (w : ℕ). filledBy w page (restAfter (layoutsIn f) start)) width-read
+          ∙ page-met f page start (o .met) tree (rw (← width-read) room) ok

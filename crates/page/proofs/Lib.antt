@@ -1,5 +1,3 @@
 pub mod Checks
-pub mod Filling
 pub mod Given
-pub mod Steps
-pub mod Turns
+pub mod Seen

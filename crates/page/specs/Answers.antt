@@ -13,7 +13,7 @@ abbrev pub pagedOf : PageAnswer → Outcome Paged
 pagedOf (answer.Trees count more) = answered (record { count = count; more = more })
 pagedOf (answer.Refused e) = refused e
 
--- a refusal of Open, or of 12, as one of Page; an answer never is one
+-- a refusal of Open as one of Page; an answer never is one
 abbrev pub refusedBy : Outcome Sizes → Outcome Paged
 refusedBy (refused e) = refused e
 refusedBy (answered a) = refused 0

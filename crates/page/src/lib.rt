@@ -1,22 +1,24 @@
 //! Page: the next trees of the list, as many as remain and fit.
-//! What the functions below `page` are given and answer stands in specs/Walkable.antt.
+//! What the functions below `page` are given and answer stands in specs/Beginning.antt.
 ghost use mathlib.Core.Path.{_≡_};
+ghost use mathlib.Core.Bool.{true};
 ghost use mathlib.Core.List.{List};
 ghost use Prim.Native.Nat.{ℕ};
-ghost use lib.ListN.{getElem?};
-ghost use Rattle.chart.specs.Chart.{listIn, plantIn, widthIn};
+ghost use Rattle.lists.proofs.Members.{_∈_};
+ghost use Rattle.chart.proofs.Charts.{Charts};
+ghost use Rattle.chart.specs.Chart.{listIn, plantIn};
 ghost use Rattle.checks.specs.Checks.{firstUnmet};
+ghost use Rattle.grow.proofs.Leads.{MustsLead};
 ghost use Rattle.network.specs.Answers.{openedOf};
 ghost use Rattle.network_file.specs.File.{networkOf};
 ghost use Rattle.operations.specs.Operations.{pageCall, startChecks};
-ghost use Rattle.pages.proofs.TreePages.{Starts};
-ghost use Rattle.pages.specs.Pages.{restAfter};
+ghost use Rattle.paths.specs.Path.{keysOf, plantOf};
 ghost use Rattle.trace.specs.Trace.{tracedIn};
-ghost use Rattle.trail.specs.Trail.{Holds};
 ghost use Rattle.page.specs.Answers.{numbered, pagedOf, refusedBy};
-ghost use Rattle.page.specs.Walkable.{ChartOf, Comes, Walkable, filledBy};
+ghost use Rattle.page.specs.Beginning.{Beginning, ChartOf};
 use network::Opened;
-use trail::Turn;
+use paths::Path;
+use walk::Next;
 
 /// The answer of Page: how many trees were written, and whether a tree follows.
 pub enum PageAnswer {
@@ -24,83 +26,18 @@ pub enum PageAnswer {
     Refused(u8),
 }
 
-// What comes behind the start; from the first path on where the start is empty.
-fn first_turn(
-    chart: &[u64; chart::LENGTH],
-    entered: &[u8],
-    pivots: &[u8; 31],
-    sets: &[u64; 32],
-    start: &[u16],
-) -> Turn
-    ensures { λ r. ⌜ (Walkable (now (chart .entry)) → Starts (listIn (now (chart .entry))) (now (start .entry)) → Holds (now (entered .entry)) (now (pivots .entry)) (now (sets .entry)) (plantIn (now (chart .entry))) (tracedIn (now (chart .entry)) (now (start .entry))) → Comes (now (chart .entry)) (tracedIn (now (chart .entry)) (now (start .entry))) r (getElem? (restAfter (listIn (now (chart .entry))) (now (start .entry))) 0)) ⌝ }
+// Whether the start, with its path, is seen to be a tree of the list: its steps are legal, and it has all nodes and all must rows.
+fn seen_listed(chart: &[u64; chart::LENGTH], start: &[u16], path: Path) -> bool
+    ensures { λ r. ⌜ (let c = now (chart .entry) in Charts c → MustsLead c → plantOf path ≡ plantIn c → keysOf path ≡ tracedIn c (now (start .entry))
+        → r ≡ true → now (start .entry) ∈ listIn c) ⌝ }
 {
-    if 0 < start.len() {
-        return trail::next_turn(chart, entered, pivots, sets, start);
+    if start.len() != chart::width(chart) {
+        return false;
     }
-    Turn {
-        some: true,
-        at: 0,
-        place: 0,
-        node: 0,
-        row: 0,
+    if walk::climbs(chart, path) {
+        return grow::musts_met(chart, start);
     }
-}
-
-/// Fills the page with the trees of the chart's list behind the start, as many as remain and fit.
-/// Each is read from its places in the page to find the next; its nodes, its pivots' places and their sets are kept in arrays from tree to tree.
-pub fn fill(chart: &[u64; chart::LENGTH], page: &mut [u16], start: &[u16]) -> PageAnswer
-    ensures { λ r. ⌜ (Walkable (now (chart .entry)) → Starts (listIn (now (chart .entry))) (now (start .entry)) → record { outcome = pagedOf r; buffers = now (page .exit) } ≡ filledBy (widthIn (now (chart .entry))) (now (page .entry)) (restAfter (listIn (now (chart .entry))) (now (start .entry)))) ⌝ }
-{
-    let width = chart::width(chart);
-    // trees of no row would never fill the page, and a path has at most 31
-    if width == 0 {
-        return PageAnswer::Trees {
-            count: 0,
-            more: false,
-        };
-    }
-    if 31 < width {
-        return PageAnswer::Trees {
-            count: 0,
-            more: false,
-        };
-    }
-    let path = trace::trace(chart, start);
-    let mut entered = path.nodes;
-    let mut pivots = path.pivots;
-    let mut rows = path.rows;
-    let mut sets = [0u64; 32];
-    let n = path.length() + 1;
-    trail::gather(&entered[..n], &mut sets);
-    let mut turn = first_turn(chart, &entered, &pivots, &sets, start);
-    let mut at: usize = 0;
-    let mut count: usize = 0;
-    while turn.some {
-        if page.len() - at < width {
-            return PageAnswer::Trees {
-                count: count,
-                more: true,
-            };
-        }
-        trail::take_turn(
-            chart,
-            &mut entered,
-            &mut pivots,
-            &mut sets,
-            &mut rows[..width],
-            turn,
-        );
-        let from = at;
-        copies::copy_rows(page, from, &rows[..width], width);
-        at += width;
-        count += 1;
-        let last = &page[from..at];
-        turn = trail::next_turn(chart, &entered, &pivots, &sets, last);
-    }
-    PageAnswer::Trees {
-        count: count,
-        more: false,
-    }
+    false
 }
 
 // The number of the first check of the start that is not met, of 8, 9, 10, 15 and 13; 0 where there is none.
@@ -117,7 +54,44 @@ fn start_number(chart: &[u64; chart::LENGTH], start: &[u16]) -> u8
     if drawn.path.is_written(start) { 0 } else { 13 }
 }
 
-// A refusal of Open, or of 12, as one of Page; only a refusal is asked.
+// What a call begins with: whether the network has a tree, the number of the first check of the start that is not met, 0 where there is none, and what comes first behind it.
+struct Begun {
+    tree: bool,
+    number: u8,
+    next: Next,
+}
+
+// Tries the start and finds what comes behind it. A start that is seen to be a tree of the list shows that the network has one, and all its checks are met.
+fn begin(chart: &[u64; chart::LENGTH], start: &[u16]) -> Begun
+    ensures { λ r. ⌜ ((f : List ℕ) → ChartOf f (now (chart .entry)) → Beginning f (now (chart .entry)) (now (start .entry)) r) ⌝ }
+{
+    if start.len() == 0 {
+        let next = walk::first(chart);
+        return Begun {
+            tree: next.some,
+            number: 0,
+            next: next,
+        };
+    }
+    let path = trace::trace(chart, start);
+    let next = walk::after(chart, path, chart::width(chart));
+    if seen_listed(chart, start, path) {
+        return Begun {
+            tree: true,
+            number: 0,
+            next: next,
+        };
+    }
+    // what is wrong with it is asked in the order of the checks
+    let first = walk::first(chart);
+    Begun {
+        tree: first.some,
+        number: start_number(chart, start),
+        next: next,
+    }
+}
+
+// A refusal of Open as one of Page; only a refusal is asked.
 fn refused(opened: Opened) -> PageAnswer
     ensures { λ r. ⌜ pagedOf r ≡ refusedBy (openedOf opened) ⌝ }
 {
@@ -131,17 +105,25 @@ fn refused(opened: Opened) -> PageAnswer
 pub fn page(file: &[u8], page: &mut [u16], start: &[u16]) -> PageAnswer
     ensures { λ r. ⌜ record { outcome = pagedOf r; buffers = now (page .exit) } ≡ pageCall (now (file .entry)) (now (page .entry)) (now (start .entry)) ⌝ }
 {
-    let mut chart = [0u64; chart::LENGTH];
-    let opened = listed::listed(file, &mut chart);
+    let opened = network::open(file);
     let Opened::Header(_) = opened else {
         return refused(opened);
     };
+    let mut chart = [0u64; chart::LENGTH];
+    chart::of_file(file, &mut chart);
+    let begun = begin(&chart, start);
+    if !begun.tree {
+        return PageAnswer::Refused(12);
+    }
     if page.len() < chart::width(&chart) {
         return PageAnswer::Refused(11);
     }
-    let number = start_number(&chart, start);
-    if number != 0 {
-        return PageAnswer::Refused(number);
+    if begun.number != 0 {
+        return PageAnswer::Refused(begun.number);
     }
-    fill(&chart, page, start)
+    let filled = fill::fill_from(&chart, page, begun.next);
+    PageAnswer::Trees {
+        count: filled.count,
+        more: filled.more,
+    }
 }

@@ -4,7 +4,8 @@ use mathlib.Core.Path.{_∙_, _≡_, ap, ap₂, refl, sym}
 use mathlib.Core.Logic.{_↔_, ⊎-elim}
 use mathlib.Core.Bool.{Bool, false, true}
 use mathlib.Core.Option.{Option, Option·none-ne-some, Option·some-injective, Option·some-ne-none, none, some}
-use mathlib.Core.List.{List, [], _++_, _∷_, append-assoc, append-nil, List·Memᴰ·head as here, map, List·Memᴰ·cases-cons as mem-cases, Memᴰ·cast as mem-cast, List·Memᴰ·not-nil as mem-nil, List·Memᴰ·tail as there}
+use mathlib.Core.List.{List, [], _++_, _∷_, append-assoc, append-nil, map}
+use mathlib.Core.List.{List·Memᴰ·head as here, List·Memᴰ·cases-cons as mem-cases, Memᴰ·cast as mem-cast, List·Memᴰ·not-nil as mem-nil, List·Memᴰ·tail as there}
 use Prim.Native.Nat.{_*_, _+_, _/_, _<_, _≤_, min, suc, zero, ℕ}
 use native.Mathlib.Nat.{add-assoc, add-zero, div-eq-of-lt, div-mul-le-self, le-div-iff-mul-le, le-trans, min-zero, mul-le-mul-right, suc-mul, zero-add, zero-mul}
 use native.Mathlib.Omega.{arith}

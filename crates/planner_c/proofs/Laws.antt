@@ -34,7 +34,8 @@ pub pick-none : (n : ℕ) (page : List ℕ) (t : ℕ) (out : List ℕ) → 255 <
 unfolding plannerPick pickCall
 pick-none n page t out high = simp (lt-leb n 32 (omega arith), and-false, take-nil)
 
-pub pick-copied : (n : ℕ) (page : List ℕ) (t : ℕ) (out part after : List ℕ) → part ≡ pickCall n page t → after ≡ copied out 0 part (length part) → record { code = length part; buffers = after } ≡ plannerPick n page t out
+pub pick-copied : (n : ℕ) (page : List ℕ) (t : ℕ) (out part after : List ℕ) → part ≡ pickCall n page t
+    → after ≡ copied out 0 part (length part) → record { code = length part; buffers = after } ≡ plannerPick n page t out
 unfolding plannerPick
 pick-copied n page t out part after same e = rw (e ∙ copied-first out part, same)
 
@@ -55,7 +56,8 @@ module _ {A : Type 0} (values : A → List ℕ) (outcome : Outcome A) (answer : 
   unfolding answering
   answering-two a x y enough told same = simp (le-ltb _ _ enough, told, same, over-two answer x y enough)
 
-  pub answering-three : (a : A) (x y z : ℕ) → 3 ≤ length answer → outcome ≡ answered a → values a ≡ x ∷ y ∷ z ∷ [] → record { code = 0; buffers = set (set (set answer 0 x) 1 y) 2 z } ≡ answering 3 values outcome answer
+  pub answering-three : (a : A) (x y z : ℕ) → 3 ≤ length answer → outcome ≡ answered a → values a ≡ x ∷ y ∷ z ∷ []
+      → record { code = 0; buffers = set (set (set answer 0 x) 1 y) 2 z } ≡ answering 3 values outcome answer
   unfolding answering
   answering-three a x y z enough told same = simp (le-ltb _ _ enough, told, same, over-three answer x y z enough)
 
@@ -75,10 +77,12 @@ module _ {A B : Type 0} (values : A → List ℕ) (e : Ended A B) (lent : B) (an
   beside-short places few = simp (lt-ltb _ _ few)
 
   module _ (outcome : Outcome A) (after : B) (ends : record { outcome = outcome; buffers = after } ≡ e) where
-    pub beside-refused : (places number : ℕ) → places ≤ length answer → outcome ≡ refused number → record { code = number; buffers = record { lent = after; answer = answer } } ≡ answeringBeside places values e lent answer
+    pub beside-refused : (places number : ℕ) → places ≤ length answer → outcome ≡ refused number
+        → record { code = number; buffers = record { lent = after; answer = answer } } ≡ answeringBeside places values e lent answer
     unfolding answeringBeside
     beside-refused places number enough told = rw (← ends) (simp (le-ltb _ _ enough, told))
 
-    pub beside-two : (a : A) (x y : ℕ) → 2 ≤ length answer → outcome ≡ answered a → values a ≡ x ∷ y ∷ [] → record { code = 0; buffers = record { lent = after; answer = set (set answer 0 x) 1 y } } ≡ answeringBeside 2 values e lent answer
+    pub beside-two : (a : A) (x y : ℕ) → 2 ≤ length answer → outcome ≡ answered a → values a ≡ x ∷ y ∷ []
+        → record { code = 0; buffers = record { lent = after; answer = set (set answer 0 x) 1 y } } ≡ answeringBeside 2 values e lent answer
     unfolding answeringBeside
     beside-two a x y enough told same = rw (← ends) (simp (le-ltb _ _ enough, told, same, over-two answer x y enough))

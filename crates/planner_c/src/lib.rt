@@ -106,7 +106,8 @@ pub extern "C" fn planner_charge(
     buffer: &mut [u32],
     answer: &mut [u32],
 ) -> u32
-    ensures { λ r. ⌜ record { code = r; buffers = record { lent = now (buffer .exit); answer = now (answer .exit) } } ≡ plannerCharge (now (file .entry)) (now (rows .entry)) criterion (now (buffer .entry)) (now (answer .entry)) ⌝ }
+    ensures { λ r. ⌜ record { code = r; buffers = record { lent = now (buffer .exit); answer = now (answer .exit) } }
+        ≡ plannerCharge (now (file .entry)) (now (rows .entry)) criterion (now (buffer .entry)) (now (answer .entry)) ⌝ }
 {
     if answer.len() < 2 {
         return 255;
@@ -165,7 +166,8 @@ pub extern "C" fn planner_page(
     start: &[u16],
     answer: &mut [u32],
 ) -> u32
-    ensures { λ r. ⌜ record { code = r; buffers = record { lent = now (page .exit); answer = now (answer .exit) } } ≡ plannerPage (now (file .entry)) (now (page .entry)) (now (start .entry)) (now (answer .entry)) ⌝ }
+    ensures { λ r. ⌜ record { code = r; buffers = record { lent = now (page .exit); answer = now (answer .exit) } }
+        ≡ plannerPage (now (file .entry)) (now (page .entry)) (now (start .entry)) (now (answer .entry)) ⌝ }
 {
     if answer.len() < 2 {
         return 255;
@@ -190,7 +192,8 @@ pub extern "C" fn planner_front(
     witnesses: &mut [u16],
     answer: &mut [u32],
 ) -> u32
-    ensures { λ r. ⌜ record { code = r; buffers = record { lent = record { costs = now (costs .exit); witnesses = now (witnesses .exit) }; answer = now (answer .exit) } } ≡ plannerFront (now (file .entry)) (now (costs .entry)) (now (witnesses .entry)) (now (answer .entry)) ⌝ }
+    ensures { λ r. ⌜ record { code = r; buffers = record { lent = record { costs = now (costs .exit); witnesses = now (witnesses .exit) }; answer = now (answer .exit) } }
+        ≡ plannerFront (now (file .entry)) (now (costs .entry)) (now (witnesses .entry)) (now (answer .entry)) ⌝ }
 {
     if answer.len() < 2 {
         return 255;
@@ -220,7 +223,9 @@ pub extern "C" fn planner_office(
     filled2: u64,
     answer: &mut [u32],
 ) -> u32
-    ensures { λ r. ⌜ record { code = r; buffers = record { lent = record { costs = now (costs .exit); witnesses = now (witnesses .exit) }; answer = now (answer .exit) } } ≡ plannerOffice (now (file .entry)) (now (rows .entry)) office h (record { first = filled1; second = filled2 }) (record { costs = now (costs .entry); witnesses = now (witnesses .entry) }) (now (answer .entry)) ⌝ }
+    ensures { λ r. ⌜ record { code = r; buffers = record { lent = record { costs = now (costs .exit); witnesses = now (witnesses .exit) }; answer = now (answer .exit) } }
+        ≡ plannerOffice (now (file .entry)) (now (rows .entry)) office h (record { first = filled1; second = filled2 })
+        (record { costs = now (costs .entry); witnesses = now (witnesses .entry) }) (now (answer .entry)) ⌝ }
 {
     if answer.len() < 2 {
         return 255;

@@ -121,8 +121,10 @@ module _ (key : List ℕ → List ℕ) (k w rows : ℕ) (long : (p : List ℕ) �
     dropped-row : (x : List ℕ) (more : List (List ℕ)) → drop rows new ≡ x ∷ more → rows ≤ length new → take k (drop (rows * k) (newCosts costs new)) ≡ key x
     unfolding flat
     dropped-row x more e h =
-        let before : length (flat (map key first)) ≡ rows * k = flat-long k (map key first) (sized-keys first) ∙ ap (λ (n : ℕ). n * k) (length-map first key ∙ length-take-le rows new h) in
-        let split : flat (map key new) ≡ flat (map key first) ++ (key x ++ flat (map key more)) = ap flat (sym key-parts) ∙ flat-append (map key first) (map key (drop rows new)) ∙ ap (λ (l : List (List ℕ)). flat (map key first) ++ flat (map key l)) e in
+        let before : length (flat (map key first)) ≡ rows * k =
+        flat-long k (map key first) (sized-keys first) ∙ ap (λ (n : ℕ). n * k) (length-map first key ∙ length-take-le rows new h) in
+        let split : flat (map key new) ≡ flat (map key first) ++ (key x ++ flat (map key more)) =
+        ap flat (sym key-parts) ∙ flat-append (map key first) (map key (drop rows new)) ∙ ap (λ (l : List (List ℕ)). flat (map key first) ++ flat (map key l)) e in
         rw (split, append-assoc, drop-at (flat (map key first)) _ (rows * k) before, append-assoc) (take-at (key x) _ k (long x))
 
     cut-held : Holds (renewed costs witnesses s new) (cutAt key rows b new)

@@ -64,7 +64,8 @@ pub fn offer(
     vector: &[u32],
     path: &[u16],
 ) -> Scratch
-    ensures { λ r. ⌜ record { scratch = r; costs = now (costs .exit); witnesses = now (witnesses .exit) } ≡ offerOf (now (known .entry)) count (now (costs .entry)) (now (witnesses .entry)) rows scratch (now (vector .entry)) (now (path .entry)) ⌝ }
+    ensures { λ r. ⌜ record { scratch = r; costs = now (costs .exit); witnesses = now (witnesses .exit) }
+        ≡ offerOf (now (known .entry)) count (now (costs .entry)) (now (witnesses .entry)) rows scratch (now (vector .entry)) (now (path .entry)) ⌝ }
 {
     let k = vector.len();
     if k == 0 {

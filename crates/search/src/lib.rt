@@ -15,8 +15,8 @@ pub enum Found {
     Nothing,
 }
 
-/// Whether row r joins u and v, or is a must row that does.
-fn joins(chart: &[u64; chart::LENGTH], must: bool, r: usize, u: u8, v: u8) -> bool
+/// Whether row r joins u and v; or whether it is a must row that does.
+pub fn joins(chart: &[u64; chart::LENGTH], must: bool, r: usize, u: u8, v: u8) -> bool
     ensures { λ x. ⌜ x ≡ joinsAt (firstsIn must (now (chart .entry))) (secondsIn must (now (chart .entry))) r u v ⌝ }
 {
     let a = chart::first_end(chart, must, r);

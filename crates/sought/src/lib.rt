@@ -193,7 +193,10 @@ fn rows(
     witnesses: &mut [u16],
 ) -> FrontAnswer
     requires { ⌜ Searched (now chart) (now firsts) (now seconds) (now heads) kinds k (now prices) (now leads) × Holding capacity k (widthIn (now chart)) (now costs) (now witnesses) ⌝ }
-    ensures { λ r. ⌜ FilledBy (soughtFront (now (chart .entry)) kinds k (now (prices .entry)) (now (leads .entry))) (soughtWitnesses (now (chart .entry)) kinds k (now (prices .entry)) (now (leads .entry))) capacity (now (costs .entry)) (now (witnesses .entry)) (frontedOf r) (now (costs .exit)) (now (witnesses .exit)) ⌝ }
+    ensures { λ r. ⌜ FilledBy
+        (soughtFront (now (chart .entry)) kinds k (now (prices .entry)) (now (leads .entry)))
+        (soughtWitnesses (now (chart .entry)) kinds k (now (prices .entry)) (now (leads .entry)))
+        capacity (now (costs .entry)) (now (witnesses .entry)) (frontedOf r) (now (costs .exit)) (now (witnesses .exit)) ⌝ }
 {
     let limit = chart::limit(chart);
     let width = chart::width(chart);
@@ -280,7 +283,8 @@ fn fill(
 
 /// Front, by search: the first vectors of the front, as many as fit, each with the first tree of the list that has it.
 pub fn front(file: &[u8], costs: &mut [u32], witnesses: &mut [u16]) -> FrontAnswer
-    ensures { λ r. ⌜ record { outcome = frontedOf r; buffers = record { costs = now (costs .exit); witnesses = now (witnesses .exit) } } ≡ frontCall (now (file .entry)) (now (costs .entry)) (now (witnesses .entry)) ⌝ }
+    ensures { λ r. ⌜ record { outcome = frontedOf r; buffers = record { costs = now (costs .exit); witnesses = now (witnesses .exit) } }
+        ≡ frontCall (now (file .entry)) (now (costs .entry)) (now (witnesses .entry)) ⌝ }
 {
     let mut chart = [0u64; chart::LENGTH];
     let opened = listed::listed(file, &mut chart);

@@ -1,25 +1,21 @@
--- The least completion with all rows ms past all that begin with the steps js (`NextFull`), or there is none (`NoneFull`): `beyond-full`. As `NextBeyond` of
--- crate bounds, found from the last step of js back. For a loop over places: `none-end-full`, `none-back-full`, `beyond-place-full`.
+-- The least completion with all rows ms past all that begin with the steps js (`NextFull`), or there is none (`NoneFull`).
+-- It is found from the last step of js back. For a loop over places: `none-end-full`, `none-back-full`, `beyond-place-full`.
 use mathlib.Core.Path.{_≡_, refl, subst, sym}
-use mathlib.Core.Logic.{_⊎_, inl, inr}
+use mathlib.Core.Logic.{inl, inr}
 use mathlib.Core.Option.{Option·none-ne-some, Option·some-injective, some}
 use mathlib.Core.List.{List, [], _++_, _∷_}
 use Prim.Native.Nat.{suc, zero, ℕ}
 use lib.ListN.{drop, getElem?, length, take}
-use Rattle.lists.proofs.Distinct.{Distinct}
 use Rattle.graph.specs.Graph.{Graph, rowNumbers}
 use Rattle.graph.specs.Paths.{Key}
 use Rattle.graph.proofs.Growth.{Legal, State, after}
 use Rattle.graph.proofs.Keys.{KeysLe}
-use Rattle.graph.proofs.Minimal.{WellFormed}
 use Rattle.graph.proofs.Walk.{Legals, stateAfter}
 use Rattle.forests.specs.Forests.{cut}
-use Rattle.forests.proofs.Cuts.{cut-distinct}
 use Rattle.bounds.proofs.Beyond.{Beyond}
-use Rattle.states.proofs.Rest.{Begun}
-use Rattle.states.proofs.Full.{Full, begun-after, full-cons, full-tail}
+use Rattle.states.proofs.Full.{Full, full-cons, full-tail}
 use Rattle.states.proofs.Due.{dueAfter}
-use Rattle.states.proofs.Past.{LeastPastFull, NonePastFull, OpenFull, skip-full}
+use Rattle.states.proofs.Past.{LeastPastFull, NonePastFull}
 
 pub record NextFull (g : Graph) (s : State) (ms : List ℕ) (js ls : List Key) : Type 0 where
   pub full : Full g s ms ls
@@ -56,22 +52,6 @@ module _ (g : Graph) where
       compare [] f x = absurd x
       compare (m ∷ is) f (inl x) = a .least m is f x
       compare (m ∷ is) f (inr x) = absurd (n is (full-tail (subst (λ (y : Key). Full g s ms (y ∷ is)) (sym (x .0)) f)) (x .1))
-
-  -- there is one, or none
-  pub beyond-full : WellFormed g → (s : State) (ms : List ℕ) (js ks : List Key) → Begun g s → Distinct ms → Full g s ms (js ++ ks)
-      → ((ls : List Key) × NextFull g s ms js ls) ⊎ NoneFull g s ms js
-  beyond-full wf s ms [] ks b once f = inr (none-nil-full s ms)
-  beyond-full wf s ms (k ∷ js) ks b once f =
-      step (beyond-full wf (after s k) (cut (k .row) ms) js ks (begun-after b (f .completes .0)) (cut-distinct (k .row) ms once) (full-tail f))
-      (skip-full g wf s b ms once k (js ++ ks) f)
-    where
-      step : ((ls : List Key) × NextFull g (after s k) (cut (k .row) ms) js ls) ⊎ NoneFull g (after s k) (cut (k .row) ms) js
-          → (OpenFull g wf s b ms once k (js ++ ks) f × ((l : Key) × (ls : List Key) × LeastPastFull g s ms k l ls))
-          ⊎ ((¬ OpenFull g wf s b ms once k (js ++ ks) f) × NonePastFull g s ms k)
-          → ((ls : List Key) × NextFull g s ms (k ∷ js) ls) ⊎ NoneFull g s ms (k ∷ js)
-      step (inl t) d = inl (k ∷ t .0, beyond-cons s ms k js (t .0) (f .completes .0) (t .1))
-      step (inr n) (inl (o, t)) = inl (t .0 ∷ t .1, beyond-skip s ms k js (t .0) (t .1) n (t .2))
-      step (inr n) (inr (o, p)) = inr (none-cons-full s ms k js n p)
 
   -- By places: a loop goes from the last step of js back to the first, and at place i keeps that nothing is beyond the steps from i on.
 

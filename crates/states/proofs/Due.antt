@@ -1,7 +1,7 @@
 -- The rows that a path still has to take (`Due`) of all that it must have: the others have both ends entered, so that they make no steps and lead nowhere.
 -- So a step is accepted by all of them exactly if it is by those that are due (`due-accepted`, `due-least`). Least accepted steps one after the other
 -- (`Accepts`), as a loop takes them: they are the least completion with all the rows, if there is any (`accepts-full`, `accepts-least`, `accepts-decide`).
-use mathlib.Core.Path.{_≡_, refl, sym}
+use mathlib.Core.Path.{sym}
 use mathlib.Core.Logic.{_↔_, _⊎_, inl, inr, ⊎-elim}
 use mathlib.Core.List.{List, [], _++_, _∷_, Memᴰ·cast as mem-cast}
 use Prim.Native.Nat.{ℕ}
@@ -35,10 +35,6 @@ dueAfter ms (k ∷ ks) = dueAfter (cut (k .row) ms) ks
 pub dueAfter-distinct : (ms : List ℕ) (ks : List Key) → Distinct ms → Distinct (dueAfter ms ks)
 dueAfter-distinct ms [] d = d
 dueAfter-distinct ms (k ∷ ks) d = dueAfter-distinct (cut (k .row) ms) ks (cut-distinct (k .row) ms d)
-
-pub dueAfter-snoc : (ms : List ℕ) (ks : List Key) (k : Key) → dueAfter ms (ks ++ (k ∷ [])) ≡ cut (k .row) (dueAfter ms ks)
-dueAfter-snoc ms [] k = refl
-dueAfter-snoc ms (l ∷ ks) k = dueAfter-snoc (cut (l .row) ms) ks k
 
 -- at the start all are
 pub due-all : (g : Graph) (s : State) (ms : List ℕ) → Due g s ms ms

@@ -1,28 +1,26 @@
--- Completions with all rows of a list (`Full`). A state has one exactly if it is live and the rows are a forest of the rest (`full-exists`, `full?`).
+-- Completions with all rows of a list (`Full`). A state has one exactly if it is live and the rows are a forest of the rest (`full-exists`).
 -- A legal step can be in one exactly if it is `Accepted`: its row is one of them, or they do not lead to its node (`accepted-full`, `full-accepted`).
--- So the least one takes the least accepted step again and again (`least-accepted`, `least-full-cons`, `sufficient-full`).
+-- So the least one takes the least accepted step again and again (`least-accepted`, `least-full-cons`).
 use mathlib.Core.Path.{refl, subst, sym}
 use mathlib.Core.Logic.{_↔_, _⊎_, inl, inr, ⊎-elim}
 use mathlib.Core.List.{List, [], _∷_, List·Memᴰ·head as here, List·Memᴰ·cases-cons as mem-cases, List·Memᴰ·not-nil as mem-nil, List·Memᴰ·tail as there}
-use Prim.Native.Nat.{_+_, _≤_, suc, zero, ℕ}
+use Prim.Native.Nat.{ℕ}
 use native.Mathlib.Decide.{ℕ-discrete}
-use native.Mathlib.Omega.{arith}
-use lib.ListN.{length}
-use Rattle.lists.proofs.Distinct.{Distinct, mem?, subset?}
-use Rattle.lists.proofs.Members.{_∈_, _⊆_, cons-⊆, length-snoc, snoc-old}
+use Rattle.lists.proofs.Distinct.{Distinct, mem?}
+use Rattle.lists.proofs.Members.{_∈_, _⊆_, cons-⊆, snoc-old}
 use Rattle.graph.specs.Graph.{Graph, firstEnd, rowNumbers, secondEnd}
 use Rattle.graph.specs.Paths.{Key}
 use Rattle.graph.proofs.Growth.{Completion, Legal, Live, Reaches, State, after, necessary, rowsOf}
 use Rattle.graph.proofs.Keys.{KeyCases, KeysLe, key-compare}
-use Rattle.graph.proofs.Least.{Least, LeastCompletion, complete, least-step, sound-after, sound-room}
+use Rattle.graph.proofs.Least.{Least, sound-after}
 use Rattle.graph.proofs.Minimal.{WellFormed, rowNumbers-in}
 use Rattle.graph.proofs.Unique.{no-smaller}
 use Rattle.forests.specs.Forests.{cut}
-use Rattle.forests.proofs.Cuts.{cut-distinct, cut-or, cut-out}
-use Rattle.forests.proofs.Forest.{Forest, forest-add, forest-head, forest-part, forest?}
+use Rattle.forests.proofs.Cuts.{cut-or, cut-out}
+use Rattle.forests.proofs.Forest.{Forest, forest-add, forest-head, forest-part}
 use Rattle.forests.proofs.Joined.{Joined, Lies, ends-joined, joined-ends-by, lies-in}
 use Rattle.forests.proofs.Spanning.{extension, tree-forest}
-use Rattle.states.proofs.Rest.{Begun, completion-rest, fresh-in, joined-reaches, live-spans, onto-of, reaches-joined, reaches?, rest, rest-completion, rest-formed, rest-onto, rest-usable}
+use Rattle.states.proofs.Rest.{Begun, completion-rest, fresh-in, joined-reaches, live-spans, onto-of, reaches-joined, rest, rest-completion, rest-formed, rest-onto, rest-usable}
 
 -- a completion with all of the rows ms
 pub record Full (g : Graph) (s : State) (ms : List ℕ) (ks : List Key) : Type 0 where
@@ -73,14 +71,6 @@ module _ (g : Graph) (wf : WellFormed g) (s : State) (b : Begun g s) (ms : List 
   pub full-exists : ((ks : List Key) × Full g s ms ks) ↔ (Live g (rowNumbers g) s × Forest (rest g s) ms)
   full-exists = (λ (ks, f). (full-live ks f, full-forest ks f), λ (live, h). full-of live h)
 
-  pub full? : ((ks : List Key) × Full g s ms ks) ⊎ ((ks : List Key) → ¬ Full g s ms ks)
-  full? = step (complete g (rowNumbers g) s (b .sound)) (forest? (rest g s) ms)
-    where
-      step : ((ks : List Key) × LeastCompletion g (rowNumbers g) s ks) ⊎ (¬ Live g (rowNumbers g) s) → Dec (Forest (rest g s) ms) → ((ks : List Key) × Full g s ms ks) ⊎ ((ks : List Key) → ¬ Full g s ms ks)
-      step (inr n) d = inr (λ ks f. n (full-live ks f))
-      step (inl t) (no n) = inr (λ ks f. n (full-forest ks f))
-      step (inl t) (yes h) = inl (full-of (necessary g (rowNumbers g) s (t .0) (t .1 .completes)) h)
-
   -- ACCEPTED
 
   -- the rows ms join the ends of a legal step in the rest exactly if they lead to its node
@@ -110,12 +100,6 @@ module _ (g : Graph) (wf : WellFormed g) (s : State) (b : Begun g s) (ms : List 
       (λ r i. rowNumbers-in g r (rest-usable g wf s b r (grown .lies r i) .0)) (live-spans g wf s b (full-live ks f)) in
       let (ls, c, u, v) = rest-completion g wf s b ts t in
       (ls, record { completes = c; all = λ r i. v r (w r (there i)) }, v (k .row) (w (k .row) (here refl)))
-
-  pub accepted? : (k : Key) → Dec (Accepted g s ms k)
-  accepted? k = elim (mem? ℕ-discrete (k .row) ms) [
-    | yes i ↦ yes (inl i)
-    | no n ↦ elim (reaches? g wf s b ms (k .node)) [ yes x ↦ no (λ d. ⊎-elim n (λ m. m x) d) | no m ↦ yes (inr m) ]
-  ]
 
   -- the first step of such a completion is accepted
   pub first-accepted : (l : Key) (ls : List Key) → Full g s ms (l ∷ ls) → Accepted g s ms l
@@ -165,27 +149,3 @@ pub some-accepted : (g : Graph) → WellFormed g → (s : State) → Begun g s �
     → (v : ℕ) → v ∈ g .nodes → ¬ (v ∈ s .entered) → (k : Key) × Legal g (rowNumbers g) s k × Accepted g s ms k
 some-accepted g wf s b ms once [] f v m n = absurd (n (f .completes v m))
 some-accepted g wf s b ms once (k ∷ ks) f v m n = (k, f .completes .0, first-accepted g wf s b ms once k ks f)
-
-sufficient-in : (n : ℕ) (g : Graph) → WellFormed g → (s : State) → Begun g s → (ms : List ℕ) → Distinct ms → (ks : List Key) → Full g s ms ks
-    → length (g .nodes) ≤ n + length (s .entered) → (ls : List Key) × LeastFull g s ms ls
-sufficient-in zero g wf s b ms once ks f l = elim (subset? ℕ-discrete (g .nodes) (s .entered)) [
-  | inr t ↦ absurd (omega (arith, sound-room g s (b .sound) (t .1) (t .2)))
-  | inl w ↦ ([], least-full-nil g s ms w ks f)
-]
-sufficient-in (suc n) g wf s b ms once ks f l =
-    step (subset? ℕ-discrete (g .nodes) (s .entered)) (least-step g (rowNumbers g) s (Accepted g s ms) (accepted? g wf s b ms once))
-    (λ k a. let (ls, h) = least-accepted g wf s b ms once ks f k a in
-    sufficient-in n g wf (after s k) (begun-after b (a .legal)) (cut (k .row) ms) (cut-distinct (k .row) ms once) ls h (omega (arith, length-snoc (s .entered) (k .node))))
-  where
-    step : (g .nodes ⊆ s .entered) ⊎ ((v : ℕ) × (v ∈ g .nodes) × (¬ (v ∈ s .entered)))
-        → ((k : Key) × Least g (rowNumbers g) s (Accepted g s ms) k) ⊎ ((m : Key) → Legal g (rowNumbers g) s m → ¬ Accepted g s ms m)
-        → ((k : Key) → Least g (rowNumbers g) s (Accepted g s ms) k → (ls : List Key) × LeastFull g (after s k) (cut (k .row) ms) ls)
-        → (ls : List Key) × LeastFull g s ms ls
-    step (inl w) a r = ([], least-full-nil g s ms w ks f)
-    step (inr t) (inl a) r = let (ls, h) = r (a .0) (a .1) in (a .0 ∷ ls, least-full-cons g wf s b ms once (a .0) ls (a .1) h)
-    step (inr t) (inr x) r = let (k, h, p) = some-accepted g wf s b ms once ks f (t .0) (t .1) (t .2) in absurd (x k h p)
-
--- SUFFICIENT: where there is one there is a least one
-pub sufficient-full : (g : Graph) → WellFormed g → (s : State) → Begun g s → (ms : List ℕ) → Distinct ms → (ks : List Key) → Full g s ms ks
-    → (ls : List Key) × LeastFull g s ms ls
-sufficient-full g wf s b ms once ks f = sufficient-in (length (g .nodes)) g wf s b ms once ks f (omega arith)

@@ -1,28 +1,27 @@
 -- Past a step k of a completion with all rows ms. If k's row is one of ms, nothing comes past k (`must-last`). Else come the completions by a parallel row
--- of a larger number, and then those of the state `past s k`, which has one exactly if k's node is still reached (`past-full`): `LeastPastFull`, `skip-full`.
+-- of a larger number, and then those of the state `past s k`, which has one exactly if k's node is still reached (`past-full`): `LeastPastFull`, or there is none (`NonePastFull`).
 use mathlib.Core.Path.{_≡_, refl, subst, sym}
 use mathlib.Core.Logic.{_↔_, _⊎_, inl, inr, ⊎-elim}
-use mathlib.Core.List.{List, [], _++_, _∷_, List·Memᴰ·head as here, List·Memᴰ·cases-cons as mem-cases, Memᴰ·cast as mem-cast, List·Memᴰ·tail as there}
+use mathlib.Core.List.{List, [], _∷_, List·Memᴰ·head as here, List·Memᴰ·cases-cons as mem-cases, Memᴰ·cast as mem-cast, List·Memᴰ·tail as there}
 use Prim.Native.Nat.{ℕ}
-use native.Mathlib.Decide.{ℕ-discrete}
-use Rattle.lists.proofs.Distinct.{Distinct, mem?}
-use Rattle.lists.proofs.Members.{_∈_, snoc-new, snoc-old}
+use Rattle.lists.proofs.Distinct.{Distinct}
+use Rattle.lists.proofs.Members.{_∈_, snoc-old}
 use Rattle.graph.specs.Graph.{Graph, firstEnd, rowNumbers, secondEnd}
 use Rattle.graph.specs.Paths.{Key}
 use Rattle.graph.proofs.Growth.{Completion, Joins, Legal, Live, Reaches, State, after, back, forth, joins-sym, past, rowsOf}
 use Rattle.graph.proofs.Keys.{Ahead, Beside, KeyCases, KeyLess, KeysLe, ahead, beside, key-compare, lex-trans}
-use Rattle.graph.proofs.Least.{Least, least-step}
+use Rattle.graph.proofs.Least.{Least}
 use Rattle.graph.proofs.Minimal.{WellFormed}
-use Rattle.graph.proofs.Next.{after-beside, beside?, key-sides, legal-back, legal-past, past-incomplete}
+use Rattle.graph.proofs.Next.{after-beside, key-sides, legal-back, legal-past, past-incomplete}
 use Rattle.graph.proofs.Places.{place-old}
 use Rattle.graph.proofs.Unique.{later-step, no-smaller}
 use Rattle.graph.proofs.Walk.{past-live-iff}
 use Rattle.forests.specs.Forests.{cut}
-use Rattle.forests.proofs.Cuts.{cut-distinct, cut-out}
+use Rattle.forests.proofs.Cuts.{cut-out}
 use Rattle.forests.proofs.Forest.{Forest}
 use Rattle.forests.proofs.Joined.{Joined, Lies, ends-joined, joined-map, joined-row, lies-in}
-use Rattle.states.proofs.Rest.{Begun, Fresh, Onto, RestRow, Usable, coming, fresh-in, inside, inward, leaving, outward, reaches?, rest, rest-inside, rest-onto, rest-row, rest-usable, within}
-use Rattle.states.proofs.Full.{Full, LeastFull, begun-after, full-cons, full-forest, full-live, full-of, full-tail, sufficient-full}
+use Rattle.states.proofs.Rest.{Begun, Fresh, Onto, RestRow, Usable, coming, fresh-in, inside, inward, leaving, outward, rest, rest-inside, rest-onto, rest-row, rest-usable, within}
+use Rattle.states.proofs.Full.{Full, LeastFull, full-cons, full-forest, full-live, full-of, full-tail}
 
 pub begun-past : {g : Graph} {s : State} (k : Key) → Begun g s → Begun g (past s k)
 begun-past k b = record { sound = record { once = b .sound .once; nodes = b .sound .nodes }; plant = b .plant }
@@ -113,12 +112,6 @@ module _ (g : Graph) (wf : WellFormed g) (s : State) (b : Begun g s) (ms : List 
       let i = past-live-iff g (rowNumbers g) s k ks (f .completes) in
       (λ t. i .0 (past-full .0 t), λ x. past-full .1 (i .1 x))
 
-  -- a parallel row is none of ms
-  pub beside-free : (l : Key) → Legal g (rowNumbers g) s l → Beside k l → ¬ (l .row ∈ ms)
-  beside-free l x p i =
-      later-step g (rowNumbers g) (after s k) ks (f .completes .1) (later i) (x .step .joined) (snoc-old (k .node) (x .step .leaves)) .1
-      (subst (λ (v : ℕ). v ∈ s .entered ++ (k .node ∷ [])) (p .node) (snoc-new (s .entered) (k .node)))
-
   -- so it does as well as k
   pub beside-full : (l : Key) → Legal g (rowNumbers g) s l → Beside k l → Full g (after s l) (cut (l .row) ms) ks
   beside-full l x p = record {
@@ -166,32 +159,3 @@ module _ (g : Graph) (s : State) (ms : List ℕ) (k : Key) (h : Legal g (rowNumb
   pub past-some : (ls : List Key) → Full g (past s k) ms ls → (l : Key) × (js : List Key) × (ls ≡ l ∷ js)
   past-some [] x = absurd (past-incomplete g (rowNumbers g) s k h (x .completes))
   past-some (l ∷ js) x = (l, js, refl)
-
--- At a step k of a completion with all rows ms: the least past k, or there is none
-module _ (g : Graph) (wf : WellFormed g) (s : State) (b : Begun g s) (ms : List ℕ) (once : Distinct ms) (k : Key) (ks : List Key) (f : Full g s ms (k ∷ ks)) where
-  -- something comes past k
-  abbrev pub OpenFull : Type 0
-  OpenFull = (¬ (k .row ∈ ms)) × (((l : Key) × Legal g (rowNumbers g) s l × Beside k l) ⊎ Reaches g (rowNumbers g) (past s k) (k .node))
-
-  abbrev Skipped : Type 0
-  Skipped = (OpenFull × ((l : Key) × (ls : List Key) × LeastPastFull g s ms k l ls)) ⊎ ((¬ OpenFull) × NonePastFull g s ms k)
-
-  pub skip-full : Skipped
-  skip-full = step (mem? ℕ-discrete (k .row) ms) (least-step g (rowNumbers g) s (Beside k) (beside? k)) (reaches? g wf (past s k) (begun-past k b) (rowNumbers g) (k .node))
-    where
-      step : Dec (k .row ∈ ms) → ((l : Key) × Least g (rowNumbers g) s (Beside k) l) ⊎ ((m : Key) → Legal g (rowNumbers g) s m → ¬ Beside k m)
-          → Dec (Reaches g (rowNumbers g) (past s k) (k .node)) → Skipped
-      step (yes i) a x = inr (λ o. o .0 i, must-last g s ms k (f .completes .0) i)
-      step (no n) (inl (l, a)) x =
-          let (ls, t) = sufficient-full g wf (after s l) (begun-after b (a .legal)) (cut (l .row) ms) (cut-distinct (l .row) ms once) ks
-          (beside-full g wf s b ms once k ks f n l (a .legal) (a .passes)) in
-          inl ((n, inl (l, a .legal, a .passes)), (l, ls, skip-beside-full g s ms k (f .completes .0) l ls a t))
-      step (no n) (inr a) (yes x) =
-          let (js, y) = past-full-iff g wf s b ms once k ks f n .1 x in
-          let (ls, t) = sufficient-full g wf (past s k) (begun-past k b) ms once js y in
-          let (l, is, e) = past-some g s ms k (f .completes .0) ls (t .full) in
-          inl ((n, inr x), (l, is, skip-past-full g s ms k (f .completes .0) l is a (subst (LeastFull g (past s k) ms) e t)))
-      step (no n) (inr a) (no x) = inr (
-        λ o. ⊎-elim (λ t. a (t .0) (t .1) (t .2)) x (o .1),
-        skip-none-full g s ms k (f .completes .0) a (λ ls y. x (past-full-iff g wf s b ms once k ks f n .0 (ls, y))),
-      )

@@ -4,7 +4,9 @@
 use mathlib.Core.Path.{_∙_, _≡_, ap, refl, subst, sym}
 use mathlib.Core.Logic.{_⊎_, inl, inr, ⊎-elim}
 use mathlib.Core.Bool.{not}
-use mathlib.Core.List.{List, _++_, _∷_, List·Memᴰ·append-cases as append-cases, Memᴰ·append-left as append-left, Memᴰ·append-right as append-right, List·Memᴰ·head as here, map, List·Memᴰ·cases-cons as mem-cases, Memᴰ·cast as mem-cast, List·Memᴰ·tail as there}
+use mathlib.Core.List.{List, _++_, _∷_, map}
+use mathlib.Core.List.{List·Memᴰ·append-cases as append-cases, Memᴰ·append-left as append-left, Memᴰ·append-right as append-right}
+use mathlib.Core.List.{List·Memᴰ·head as here, List·Memᴰ·cases-cons as mem-cases, Memᴰ·cast as mem-cast, List·Memᴰ·tail as there}
 use Prim.Native.Nat.{_+_, _<_, ℕ}
 use native.Mathlib.Decide.{decLt, ℕ-discrete}
 use native.Mathlib.Omega.{arith}
@@ -22,7 +24,6 @@ use Rattle.graph.proofs.Least.{Sound, sufficient}
 use Rattle.graph.proofs.Minimal.{WellFormed, known-from, row-known, rowNumbers-in}
 use Rattle.graph.proofs.Tree.{tree-out}
 use Rattle.graph.proofs.Unique.{completion-length, completion-reuse, rows-distinct, rows-usable}
-use Rattle.forests.proofs.Closure.{joined?}
 use Rattle.forests.proofs.Joined.{Joined, Lies, joined-right, lies-in, stay, walk}
 use Rattle.forests.proofs.Parts.{Spans}
 use Rattle.forests.proofs.Spanning.{spans-tree, tree-spans}
@@ -301,12 +302,6 @@ module _ (g : Graph) (wf : WellFormed g) (s : State) (b : Begun g s) where
       step (within o h k) x = onward (x h) i o (f .node) (f .new)
       step (leaving e o k) x = direct (onto-legal i o k) refl
       step (coming e o k) x = absurd (fresh-plant f e)
-
-  pub reaches? : (qs : List ℕ) (v : ℕ) → Dec (Reaches g qs s v)
-  reaches? qs v = elim (fresh? g s v) [
-    | no n ↦ no (λ x. n (reached-fresh x))
-    | yes f ↦ elim (joined? (rest g s) qs (g .plant) v) [ yes j ↦ yes (joined-reaches j f) | no n ↦ no (λ x. n (reaches-joined x)) ]
-  ]
 
   -- rows with which the state is live join all of the rest
   pub live-spans : {qs : List ℕ} → Live g qs s → Spans (rest g s) qs

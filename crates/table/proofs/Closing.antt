@@ -102,7 +102,9 @@ module _ {v c p : List ℕ} {w count i n : ℕ} {c′ p′ : List ℕ} (at : Clo
         witnesses-long = lp ∙ at .witnesses-long;
         closed = record {
           count-is = rw next (omega (arith, length-snoc old row, at .closed .count-is));
-          costs-are = ec ∙ moved-all c′ _ _ _ (bounds .costs-below) (bounds .costs-end) ∙ (rw (next, at .closed .costs-are, at .closed .count-is) (over-more vectorOf (length v) old c wide row (i * length v) ends (below (length v)) refl));
-          witnesses-are = ep ∙ moved-all p′ _ _ _ (bounds .witnesses-below) (bounds .witnesses-end) ∙ (rw (next, at .closed .witnesses-are, at .closed .count-is) (over-more pathOf w old p wide′ row (i * w) ends′ (below w) refl));
+          costs-are = ec ∙ moved-all c′ _ _ _ (bounds .costs-below) (bounds .costs-end)
+              ∙ (rw (next, at .closed .costs-are, at .closed .count-is) (over-more vectorOf (length v) old c wide row (i * length v) ends (below (length v)) refl));
+          witnesses-are = ep ∙ moved-all p′ _ _ _ (bounds .witnesses-below) (bounds .witnesses-end)
+              ∙ (rw (next, at .closed .witnesses-are, at .closed .count-is) (over-more pathOf w old p wide′ row (i * w) ends′ (below w) refl));
         };
       }

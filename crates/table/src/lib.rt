@@ -42,7 +42,8 @@ fn close_up(
     w: usize,
 ) -> usize
     requires { ⌜ (count * length (now vector) ≤ length (now costs)) × (count * w ≤ length (now witnesses)) ⌝ }
-    ensures { λ r. ⌜ Closed (staying (now (vector .entry)) (filled (length (now (vector .entry))) w count (now (costs .entry)) (now (witnesses .entry)))) (now (costs .entry)) (now (witnesses .entry)) r (now (costs .exit)) (now (witnesses .exit)) ⌝ }
+    ensures { λ r. ⌜ Closed (staying (now (vector .entry)) (filled (length (now (vector .entry))) w count (now (costs .entry)) (now (witnesses .entry))))
+        (now (costs .entry)) (now (witnesses .entry)) r (now (costs .exit)) (now (witnesses .exit)) ⌝ }
 {
     let k = vector.len();
     let mut kept: usize = 0;
@@ -70,7 +71,8 @@ pub fn enter(
     vector: &[u32],
     path: &[u16],
 ) -> Entered
-    ensures { λ r. ⌜ record { answer = enteringOf r; costs = now (costs .exit); witnesses = now (witnesses .exit) } ≡ enterCall (now (costs .entry)) (now (witnesses .entry)) count (now (vector .entry)) (now (path .entry)) ⌝ }
+    ensures { λ r. ⌜ record { answer = enteringOf r; costs = now (costs .exit); witnesses = now (witnesses .exit) }
+        ≡ enterCall (now (costs .entry)) (now (witnesses .entry)) count (now (vector .entry)) (now (path .entry)) ⌝ }
 {
     let k = vector.len();
     let w = path.len();

@@ -4,12 +4,12 @@ use mathlib.Core.Option.{none, some}
 use mathlib.Core.List.{List}
 use Prim.Native.Nat.{_+_, _<_, _≤_, ℕ}
 use native.Mathlib.Omega.{arith}
-use lib.ListN.{length, length-take, take}
-use lib.Seq.{take-all, take-take}
+use lib.ListN.{length, take}
+use lib.Seq.{take-all}
 use Rattle.costs.specs.Costs.{frontOf}
 use Rattle.costs.proofs.Fronts.{Sized}
 use Rattle.tables.specs.Tables.{Table}
-use Rattle.tables.proofs.Known.{Known, known-initial, rows-known}
+use Rattle.tables.proofs.Known.{Known, rows-known}
 use Rattle.tables.proofs.Plans.{Ended, ended-again, ended-whole}
 
 module _ (k more cap : ℕ) (vs known : List (List ℕ)) (sized : Sized k vs) (h : Known vs known) (room : 0 < more)
@@ -17,14 +17,6 @@ module _ (k more cap : ℕ) (vs known : List (List ℕ)) (sized : Sized k vs) (h
   -- what the pass ends with is known
   pub scratch-known : Known vs (s .rows)
   scratch-known = rows-known (s .bound) vs (s .rows) (p .front)
-
-  front-long : length (s .rows) ≤ length (frontOf vs)
-  front-long = omega (arith, ap length (known-initial vs (s .rows) scratch-known) ∙ length-take (length (s .rows)) (frontOf vs))
-
-  -- more rows than fit: the first of them are the first of the front, which is cut
-  pub scratch-cut : cap < length (s .rows) → (take cap (s .rows) ≡ take cap (frontOf vs)) × (cap < length (frontOf vs))
-  scratch-cut l =
-      (ap (take cap) (known-initial vs (s .rows) scratch-known) ∙ take-take cap (length (s .rows)) (frontOf vs) (omega arith), omega (arith, front-long))
 
   -- no bound: they are the front, whole if they fit
   pub scratch-whole : s .bound ≡ none → length (s .rows) ≤ cap → (s .rows ≡ take cap (frontOf vs)) × (length (frontOf vs) ≤ cap)

@@ -1,27 +1,28 @@
 -- Rows are entries that carry a vector. At the end each row is the FIRST entry of the list with its vector, also over several passes
--- (`Witnessed`, `plan-witnessed`; with places `plan-placed`). `Walked` is the invariant of a loop over the entries: `walked-step`,
--- `walked-walk`, and to leave entries out `walked-skip` and `walked-skip-branch`. With no bound the rows are the front, and first entries too (`enterAll-witnessed`).
-use mathlib.Core.Path.{_∙_, _≡_, ap, ap₂, refl, subst, sym}
+-- (`Witnessed`, `plan-witnessed`). `Walked` is the invariant of a loop over the entries: `walked-step`, `walked-walk`.
+-- With no bound the rows are the front, and first entries too (`enterAll-witnessed`).
+use mathlib.Core.Path.{_∙_, _≡_, ap, refl, subst, sym}
 use mathlib.Core.Logic.{_⊎_, inl, inr, ⊎-elim}
 use mathlib.Core.Bool.{Bool, false, true}
-use mathlib.Core.Option.{Option, Option·none-ne-some, Option·some-injective, none, some}
-use mathlib.Core.List.{List, [], _++_, _∷_, append-assoc, append-nil, Memᴰ·append-right as append-right, List·Memᴰ·head as here, map, map-append, Memᴰ·of-map as map-out, List·Memᴰ·cases-cons as mem-cases, List·Memᴰ·not-nil as mem-nil, List·Memᴰ·tail as there}
-use Prim.Native.Nat.{_+_, _<_, _≤_, suc, zero, ℕ}
+use mathlib.Core.Option.{Option, none, some}
+use mathlib.Core.List.{List, [], _++_, _∷_, append-assoc, append-nil, map, map-append}
+use mathlib.Core.List.{Memᴰ·append-right as append-right, List·Memᴰ·head as here}
+use mathlib.Core.List.{List·Memᴰ·not-nil as mem-nil, List·Memᴰ·tail as there}
+use Prim.Native.Nat.{_+_, _≤_, suc, zero, ℕ}
 use native.Mathlib.Omega.{arith}
 use lib.Dec.{T, leb, ltb}
-use lib.ListN.{drop, getD, length, take}
+use lib.ListN.{drop, length, take}
 use lib.Seq.{append-snoc}
-use Rattle.lists.specs.Lists.{first, firstWith, pick, same, someIf}
-use Rattle.lists.proofs.Members.{_∈_, any-in, any-out, first-here, first-there, same-in, same-of, same-out, take-out}
+use Rattle.lists.specs.Lists.{firstWith, pick, same}
+use Rattle.lists.proofs.Members.{_∈_, first-here, first-there, same-in, same-out, take-out}
 use Rattle.lists.proofs.Tests.{pick-elim}
-use Rattle.costs.specs.Costs.{frontOf, noneLarger}
+use Rattle.costs.specs.Costs.{frontOf}
 use Rattle.costs.proofs.Fronts.{Sized, sized-append, sized-snoc}
-use Rattle.costs.proofs.Vectors.{noneLarger-trans}
-use Rattle.tables.specs.Tables.{Found, Plan, Table, below, bounded, conclude, cutAt, enter, enterAll, enterBounded, firstAt, met, pass, passes, placed, plan, replaced, walk}
+use Rattle.tables.specs.Tables.{Plan, Table, below, bounded, conclude, cutAt, enter, enterAll, enterBounded, met, pass, passes, plan, replaced, walk}
 use Rattle.tables.proofs.Bare.{bare, bare-enter, bare-met, bare-passes, barePlan}
 use Rattle.tables.proofs.Enter.{front-whole, seen-met}
 use Rattle.tables.proofs.Known.{Known, known-nothing, rows-known}
-use Rattle.tables.proofs.Pass.{Pass, cut-fits, pass-step, replaced-length, replaced-out, skip-pass}
+use Rattle.tables.proofs.Pass.{Pass, cut-fits, pass-step, replaced-length, replaced-out}
 use Rattle.tables.proofs.Plans.{Ended, Planned, known-sized, known-start, pass-end, plan-planned}
 
 module _ {E : Type 0} (key : E → List ℕ) where
@@ -86,26 +87,6 @@ module _ {E : Type 0} (key : E → List ℕ) (k cap : ℕ) (known : List (List �
       (rw map-append (sized-snoc k (map key done) (key u) z (y (key u) (here refl)))) (λ w m. y w (there m))
       (walked-step done (us ++ rest) u s (sym (append-assoc done (u ∷ us) rest) ∙ q) z (y (key u) (here refl)) p))
 
-  -- A stretch whose every entry is met by a row may be left out.
-  pub walked-skip : (done us : List E) (s : Table E) → Sized k (map key done) → Sized k (map key us) → ((u : E) → u ∈ us → T (met key (s .rows) u))
-      → Walked key cap known es done s → Walked key cap known es (done ++ us) s
-  walked-skip done us s z y h p = record {
-    pass = rw map-append (skip-pass k cap known (map key done) (map key us) (bare key s) sized z y met-by (p .pass));
-    firsts = p .firsts;
-  }
-    where
-      met-by : (v : List ℕ) → v ∈ map key us → (t : List ℕ) × (t ∈ map key (s .rows)) × T (noneLarger t v)
-      met-by v m = let a = map-out key us m in
-          any-out (λ t. noneLarger t v) (map key (s .rows)) (subst (λ (w : List ℕ). T (met (λ u. u) (map key (s .rows)) w)) (a .2)
-          (subst T (bare-met key (s .rows) (a .0)) (h (a .0) (a .1))))
-
-  -- So may a branch with a lower bound l than which a row is not larger.
-  pub walked-skip-branch : (done us : List E) (s : Table E) (row : E) (l : List ℕ) → Sized k (map key done) → Sized k (map key us) → row ∈ s .rows
-      → length (key row) ≡ length l → T (noneLarger (key row) l) → ((u : E) → u ∈ us → T (noneLarger l (key u)))
-      → Walked key cap known es done s → Walked key cap known es (done ++ us) s
-  walked-skip-branch done us s row l z y m e t h =
-      walked-skip done us s z y (λ u i. any-in (λ r. noneLarger (key r) (key u)) m (noneLarger-trans (key row) l (key u) e t (h u i)))
-
 module _ {E : Type 0} (key : E → List ℕ) (k cap : ℕ) (es : List E) (sized : Sized k (map key es)) where
   -- A whole pass, from known rows that are first entries.
   pub pass-walked : (known : List E) → Known (map key es) (map key known) → length (map key known) ≤ cap → Firsts key es known
@@ -153,77 +134,6 @@ plan-witnessed key k cap es sized = record {
   where
     planned : Planned cap (map key es) (barePlan key (plan key cap es))
     planned = subst (Planned cap (map key es)) (sym (bare-passes key cap (suc cap) [] es)) (plan-planned k cap (map key es) sized)
-
--- Entries that are vectors with their places: each row has the first place of its vector.
-abbrev pub vectorOf : Found → List ℕ
-vectorOf r = r .vector
-
--- What `firstAt` says: the vector stands there, and at no place before.
-pub firstAt-found : (v : List ℕ) (vs : List (List ℕ)) → v ∈ vs → (firstAt v vs < length vs) × (getD vs (firstAt v vs) [] ≡ v)
-unfolding firstAt
-firstAt-found v [] m = absurd (mem-nil m)
-firstAt-found v (u ∷ us) m = pick-elim (λ (n : ℕ). (n < length (u ∷ us)) × (getD (u ∷ us) n [] ≡ v)) (same v u)
-    (λ t. (omega arith, sym (same-out v u t)))
-    (λ n. let r = firstAt-found v us (⊎-elim (λ (e : v ≡ u). absurd (n (same-of v u e))) (λ (i : v ∈ us). i) (mem-cases m)) in (omega arith, r .1))
-
-pub firstAt-first : (v : List ℕ) (vs : List (List ℕ)) (j : ℕ) → j < firstAt v vs → ¬ (getD vs j [] ≡ v)
-unfolding firstAt
-firstAt-first v [] j h e = omega arith
-firstAt-first v (u ∷ us) zero h e = pick-elim (λ (n : ℕ). ¬ (zero < n)) (same v u) (λ t l. omega arith) (λ n l. n (same-of v u (sym e))) h
-firstAt-first v (u ∷ us) (suc j) h e =
-    pick-elim (λ (n : ℕ). ¬ (suc j < n)) (same v u) (λ t l. omega arith) (λ n l. firstAt-first v us j (omega arith) e) h
-
-pub placed-vectors : (i : ℕ) (vs : List (List ℕ)) → map vectorOf (placed i vs) ≡ vs
-placed-vectors i [] = refl
-placed-vectors i (v ∷ vs) = ap (λ (l : List (List ℕ)). v ∷ l) (placed-vectors (suc i) vs)
-
-pub placed-append : (i : ℕ) (us vs : List (List ℕ)) → placed i (us ++ vs) ≡ placed i us ++ placed (i + length us) vs
-placed-append i [] vs = ap (λ (n : ℕ). placed n vs) here-end
-  where
-    here-end : i ≡ i + 0
-    here-end = omega arith
-placed-append i (u ∷ us) vs =
-    ap (λ (l : List Found). record { vector = u; place = i } ∷ l)
-    (placed-append (suc i) us vs ∙ ap (λ (n : ℕ). placed (suc i) us ++ placed n vs) there-end)
-  where
-    there-end : suc i + length us ≡ i + suc (length us)
-    there-end = omega arith
-
--- the first of the placed entries has the first place
-placed-first : (v : List ℕ) (i : ℕ) (vs : List (List ℕ)) (r : Found) → firstWith vectorOf v (placed i vs) ≡ some r → r .place ≡ i + firstAt v vs
-unfolding first firstAt
-placed-first v i [] r e = absurd (Option·none-ne-some r e)
-placed-first v i (u ∷ us) r e = go (placed-first v (suc i) us r) (same v u) e
-  where
-    go : (firstWith vectorOf v (placed (suc i) us) ≡ some r → r .place ≡ suc i + firstAt v us)
-        → (b : Bool) → someIf b (record { vector = u; place = i }) (firstWith vectorOf v (placed (suc i) us)) ≡ some r → r .place ≡ i + pick b 0 (suc (firstAt v us))
-    go later true q = omega (arith, ap (λ (x : Found). x .place) (Option·some-injective (record { vector = u; place = i }) r q))
-    go later false q = omega (arith, later q)
-
--- the row of a vector, with its first place
-abbrev pub marked : List (List ℕ) → List ℕ → Found
-marked vs v = record { vector = v; place = firstAt v vs }
-
-marked-rows : (vs : List (List ℕ)) (rows : List Found) → Firsts vectorOf (placed 0 vs) rows → rows ≡ map (marked vs) (map vectorOf rows)
-marked-rows vs [] f = refl
-marked-rows vs (r ∷ rows) f =
-    ap₂ (λ (x : Found) (l : List Found). x ∷ l) (ap (λ (i : ℕ). record { vector = r .vector; place = i }) place-is)
-    (marked-rows vs rows (λ x m. f x (there m)))
-  where
-    place-is : r .place ≡ firstAt (r .vector) vs
-    place-is = omega (arith, placed-first (r .vector) 0 vs r (f r (here refl)))
-
--- The planner over vectors with their places.
-pub plan-placed : (k cap : ℕ) (vs : List (List ℕ)) → Sized k vs
-    → ((plan vectorOf cap (placed 0 vs)) .rows ≡ map (marked vs) (take cap (frontOf vs))) × ((plan vectorOf cap (placed 0 vs)) .whole ≡ leb (length (frontOf vs)) cap)
-plan-placed k cap vs sized = (
-  marked-rows vs ((plan vectorOf cap (placed 0 vs)) .rows) (w .firsts) ∙ ap (map (marked vs))
-      (w .vectors-are ∙ ap (λ (l : List (List ℕ)). take cap (frontOf l)) (placed-vectors 0 vs)),
-  w .whole-is ∙ ap (λ (l : List (List ℕ)). leb (length (frontOf l)) cap) (placed-vectors 0 vs),
-)
-  where
-    w : Witnessed vectorOf cap (placed 0 vs) (plan vectorOf cap (placed 0 vs))
-    w = plan-witnessed vectorOf k cap (placed 0 vs) (rw placed-vectors sized)
 
 -- Entering all entries, one after the other, with no bound: the rows are the front, each the first entry with its vector.
 module _ {E : Type 0} (key : E → List ℕ) where

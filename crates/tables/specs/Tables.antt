@@ -6,7 +6,7 @@ use mathlib.Core.List.{List, [], _∷_}
 use Prim.Native.Nat.{suc, zero, ℕ}
 use lib.Dec.{ltb}
 use lib.ListN.{drop, length, take}
-use Rattle.lists.specs.Lists.{any, filterB, insert, pick, same}
+use Rattle.lists.specs.Lists.{any, filterB, insert, pick}
 use Rattle.costs.specs.Costs.{dominates, noneLarger, vectorLess}
 
 -- rows that ascend and do not dominate one another, and a bound: what is not less than it is left to a later walk
@@ -84,8 +84,3 @@ pub record Found : Type 0 where
 abbrev pub placed : ℕ → List (List ℕ) → List Found
 placed i [] = []
 placed i (v ∷ vs) = record { vector = v; place = i } ∷ placed (suc i) vs
-
--- the first place of v
-unfoldable pub firstAt : List ℕ → List (List ℕ) → ℕ
-firstAt v [] = 0
-firstAt v (u ∷ us) = pick (same v u) 0 (suc (firstAt v us))

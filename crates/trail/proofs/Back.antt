@@ -13,12 +13,15 @@ use Rattle.graph.proofs.Growth.{rowsOf, rowsOf-length, start}
 use Rattle.bounds.proofs.Missing.{rows-map}
 use Rattle.states.specs.States.{mustRow}
 use Rattle.states.proofs.Full.{Full}
+use Rattle.lists.proofs.Tests.{T-false}
 use Rattle.words.specs.Words.{minus}
-use Rattle.chart.proofs.Charts.{Charts}
-use Rattle.chart.specs.Chart.{firstsIn, graphIn, mustsIn, nextIn, nodesIn, plantIn, widthIn}
+use Rattle.chart.proofs.Charts.{Charts, must-row}
+use Rattle.chart.specs.Chart.{firstsIn, graphIn, mustsIn, nearIn, nextIn, nodesIn, plantIn, widthIn}
 use Rattle.search.specs.Search.{orElse}
 use Rattle.paths.specs.Path.{enteredBy, noKey}
+use Rattle.states.proofs.With.{with-of}
 use Rattle.grow.specs.Grow.{freshAfter, openPast}
+use Rattle.grow.proofs.Leads.{MustsLead, tree-leads}
 use Rattle.walk.specs.Walk.{afterFrom, afterOf, skipOf}
 use Rattle.walk.proofs.Laws.{after-over, after-start, skip-must, skip-none, skip-on, skip-row}
 use Rattle.trail.specs.Trail.{Holds, TurnsTo, openBeyond, turnedBy}
@@ -45,9 +48,17 @@ abbrev pub BoundWays : List ℕ → List ℕ → List ℕ → List Key → ℕ �
 BoundWays c entered pivots keys n j found =
     (found ≡ true → TurnsTo c (plantIn c) keys (record { some = true; at = j; place = getD pivots j 0; node = getD entered n 0; row = 0 })) × (found ≡ false → LeftAt c keys j)
 
+-- with no node at the end of a must row there is none
+pub none-kept : {c : List ℕ} → MustsLead c → getD (nearIn true c) 0 0 ≡ 0 → (row : ℕ) → false ≡ mustRow (firstsIn true c) row
+none-kept {c} lead e row = sym (T-false (mustRow (firstsIn true c) row) .0 (λ t. lead .leads row (must-row c row .0 t) e))
+
 module _ {c entered pivots sets rows : List ℕ} {keys : List Key} (w : Walked c entered pivots sets rows keys) where
   pub rows-long : length rows ≡ length keys
   rows-long = ap length (w .rows-are) ∙ rowsOf-length keys
+
+  -- a tree has its must rows, which lead to nodes
+  pub leads : MustsLead c
+  leads = tree-leads (w .right) (rowsOf keys) (with-of (graphIn c) (w .right .charted .formed) (mustsIn c) keys (w .full))
 
   pub left-start : LeftAt c keys (length rows)
   left-start = rw rows-long (after-start c (plantIn c) (length keys) (length keys) keys (omega arith))

@@ -1,14 +1,17 @@
 //! The walk in place: a path in lent arrays, the nodes entered by place, the places of the pivots and the set of the nodes entered up to each place, beside its rows
 //! in a tree's places of a page. specs/Trail.antt says which path they hold, and what a turn makes of it.
 ghost use mathlib.Core.Path.{_≡_};
+ghost use mathlib.Core.Bool.{true};
 ghost use mathlib.Core.List.{List};
 ghost use Prim.Native.Nat.{_-_, _<_, _≤_};
 ghost use lib.ListN.{getD, length, take};
 ghost use Rattle.chart.proofs.Charts.{Charts};
-ghost use Rattle.chart.specs.Chart.{graphIn, mustsIn, plantIn, widthIn};
+ghost use Rattle.chart.specs.Chart.{firstsIn, graphIn, mustsIn, nearIn, plantIn, widthIn};
 ghost use Rattle.graph.proofs.Growth.{rowsOf, start};
 ghost use Rattle.graph.specs.Paths.{Key};
 ghost use Rattle.states.proofs.Full.{Full};
+ghost use Rattle.states.specs.States.{mustRow};
+ghost use Rattle.grow.proofs.Leads.{MustsLead};
 ghost use Rattle.trail.specs.Trail.{Holds, Names, TurnsTo, grownOn, openBeyond, setsBy, turnedBy};
 use search::Found;
 
@@ -23,7 +26,8 @@ pub struct Turn {
 
 /// For each place the set of the nodes entered up to it, of at most 32 nodes.
 pub fn gather(entered: &[u8], sets: &mut [u64; 32])
-    ensures { λ _. ⌜ (length (now (entered .entry)) ≤ 32 → length (now (sets .entry)) ≡ 32 → (take (length (now (entered .entry))) (now (sets .exit)) ≡ setsBy (now (entered .entry))) × (length (now (sets .exit)) ≡ 32)) ⌝ }
+    ensures { λ _. ⌜ (let nodes = now (entered .entry) in
+        length nodes ≤ 32 → length (now (sets .entry)) ≡ 32 → (take (length nodes) (now (sets .exit)) ≡ setsBy nodes) × (length (now (sets .exit)) ≡ 32)) ⌝ }
 {
     let mut set: u64 = 0;
     let mut i: usize = 0;
@@ -63,6 +67,16 @@ fn open_past(
     words::has(spread::spread(chart, false, fresh, seeds), node)
 }
 
+// Whether a row of a tree is not given up: a must row. Where no node is at the end of one, as this word tells, no row is looked at.
+fn is_kept(chart: &[u64; chart::LENGTH], claimed: u64, row: usize) -> bool
+    ensures { λ r. ⌜ (let c = now (chart .entry) in MustsLead c → claimed ≡ getD (nearIn true c) 0 0 → r ≡ mustRow (firstsIn true c) row) ⌝ }
+{
+    if claimed == 0 {
+        return false;
+    }
+    chart::is_must(chart, row)
+}
+
 /// The last step of a path that can change, with its rows in these places.
 pub fn next_turn(
     chart: &[u64; chart::LENGTH],
@@ -71,7 +85,9 @@ pub fn next_turn(
     sets: &[u64; 32],
     rows: &[u16],
 ) -> Turn
-    ensures { λ r. ⌜ ((keys : List Key) → Charts (now (chart .entry)) → Full (graphIn (now (chart .entry))) (start (graphIn (now (chart .entry)))) (mustsIn (now (chart .entry))) keys → Holds (now (entered .entry)) (now (pivots .entry)) (now (sets .entry)) (plantIn (now (chart .entry))) keys → now (rows .entry) ≡ rowsOf keys → TurnsTo (now (chart .entry)) (plantIn (now (chart .entry))) keys r) ⌝ }
+    ensures { λ r. ⌜ ((keys : List Key) → let c = now (chart .entry) in Charts c → Full (graphIn c) (start (graphIn c)) (mustsIn c) keys
+        → Holds (now (entered .entry)) (now (pivots .entry)) (now (sets .entry)) (plantIn c) keys → now (rows .entry) ≡ rowsOf keys
+        → TurnsTo c (plantIn c) keys r) ⌝ }
 {
     let none = Turn {
         some: false,
@@ -81,6 +97,7 @@ pub fn next_turn(
         row: 0,
     };
     let nodes = chart::nodes(chart);
+    let claimed = chart::near(chart, true, 0);
     let mut i = rows.len();
     if 31 < i {
         return none;
@@ -92,7 +109,7 @@ pub fn next_turn(
         let n = i;
         i -= 1;
         let row = rows[i] as usize;
-        if !chart::is_must(chart, row) {
+        if !is_kept(chart, claimed, row) {
             let node = entered[n];
             let place = pivots[i];
             let beside = chart::next_row(chart, row);
@@ -131,7 +148,11 @@ fn regrow(
     rows: &mut [u16],
     turn: Turn,
 )
-    ensures { λ _. ⌜ ((keys : List Key) → let c = now (chart .entry) in let rows₀ = now (rows .entry) in let whole = grownOn c (plantIn c) (length rows₀ - turn .at) keys (turn .place) (turn .node) in Holds (now (entered .entry)) (now (pivots .entry)) (now (sets .entry)) (plantIn c) keys → length keys ≡ turn .at → take (turn .at) rows₀ ≡ rowsOf keys → length whole ≡ length rows₀ → Holds (now (entered .exit)) (now (pivots .exit)) (now (sets .exit)) (plantIn c) whole × (now (rows .exit) ≡ rowsOf whole)) ⌝ }
+    ensures { λ _. ⌜ ((keys : List Key) → let c = now (chart .entry) in let rows₀ = now (rows .entry) in
+        let whole = grownOn c (plantIn c) (length rows₀ - turn .at) keys (turn .place) (turn .node) in
+        Holds (now (entered .entry)) (now (pivots .entry)) (now (sets .entry)) (plantIn c) keys
+        → length keys ≡ turn .at → take (turn .at) rows₀ ≡ rowsOf keys → length whole ≡ length rows₀
+        → Holds (now (entered .exit)) (now (pivots .exit)) (now (sets .exit)) (plantIn c) whole × (now (rows .exit) ≡ rowsOf whole)) ⌝ }
 {
     let nodes = chart::nodes(chart);
     let mut s = turn.at;
@@ -166,7 +187,11 @@ pub fn take_turn(
     rows: &mut [u16],
     turn: Turn,
 )
-    ensures { λ _. ⌜ ((keys : List Key) → Holds (now (entered .entry)) (now (pivots .entry)) (now (sets .entry)) (plantIn (now (chart .entry))) keys → Names keys turn → take (turn .at) (now (rows .entry)) ≡ take (turn .at) (rowsOf keys) → length (now (rows .entry)) ≡ widthIn (now (chart .entry)) → length (turnedBy (now (chart .entry)) (plantIn (now (chart .entry))) keys (turn .at) (turn .row)) ≡ widthIn (now (chart .entry)) → Holds (now (entered .exit)) (now (pivots .exit)) (now (sets .exit)) (plantIn (now (chart .entry))) (turnedBy (now (chart .entry)) (plantIn (now (chart .entry))) keys (turn .at) (turn .row)) × (now (rows .exit) ≡ rowsOf (turnedBy (now (chart .entry)) (plantIn (now (chart .entry))) keys (turn .at) (turn .row)))) ⌝ }
+    ensures { λ _. ⌜ ((keys : List Key) → let c = now (chart .entry) in let rows₀ = now (rows .entry) in
+        let whole = turnedBy c (plantIn c) keys (turn .at) (turn .row) in
+        Holds (now (entered .entry)) (now (pivots .entry)) (now (sets .entry)) (plantIn c) keys → Names keys turn
+        → take (turn .at) rows₀ ≡ take (turn .at) (rowsOf keys) → length rows₀ ≡ widthIn c → length whole ≡ widthIn c
+        → Holds (now (entered .exit)) (now (pivots .exit)) (now (sets .exit)) (plantIn c) whole × (now (rows .exit) ≡ rowsOf whole)) ⌝ }
 {
     if turn.row == 0 {
         regrow(chart, entered, pivots, sets, rows, turn);

@@ -1,24 +1,25 @@
--- The laws of the walk over a right chart, by which other crates use it. What `afterOf` answers, in the theory of growing paths: the least completion with all must rows beyond the first steps of a path, or that there is none
+-- The laws of the walk over a right chart, by which other crates use it. What `afterOf` answers, in the theory of growing paths: the least completion with all must rows
+-- beyond the first steps of a path, or that there is none
 -- (`after-beyond`, `none-beyond`). Of rows: the first tree with all must rows behind all that begin alike (`after-path`, `last-after`), and so the
--- next one (`next-path`, `last-path`). The first of all, or that there is none: `first-path`, `some-path`.
+-- next one (`next-path`, `last-path`). The first of all, or that there is none: `first-path`, `some-path`, and as the code answers `first-some`, `first-none`.
 use mathlib.Core.Path.{_∙_, _≡_, ap, refl, subst, sym}
 use mathlib.Core.Logic.{_↔_, _⊎_}
-use mathlib.Core.Bool.{true}
+use mathlib.Core.Bool.{Bool, true}
 use mathlib.Core.Option.{Option, none, some}
-use mathlib.Core.List.{List, [], _++_, _∷_, append-assoc}
+use mathlib.Core.List.{List, [], _++_, _∷_, append-assoc, map}
 use Prim.Native.Nat.{_+_, _-_, _<_, _≤_, suc, zero, ℕ}
 use native.Mathlib.Decide.{ℕ-discrete}
 use native.Mathlib.Nat.{mod-eq-of-lt}
 use native.Mathlib.Omega.{arith}
 use lib.Bits.{bitOr}
-use lib.Dec.{eqb, eqb→eq}
+use lib.Dec.{T, eqb, eqb→eq}
 use lib.ListN.{drop, getD, getElem?, length, length-take, take, take-append-drop}
 use lib.Seq.{append-snoc, getD-take, length-take-le, split-at, take-all, take-length, take-suc, take-take}
-use Rattle.lists.specs.Lists.{pick}
+use Rattle.lists.specs.Lists.{both, pick}
 use Rattle.lists.proofs.Ascending.{at-getD, take-min}
 use Rattle.lists.proofs.Distinct.{Distinct, filled}
-use Rattle.lists.proofs.Members.{_∈_, _⊆_, length-snoc, range-out}
-use Rattle.lists.proofs.Tests.{eq→eqb, pick-elim}
+use Rattle.lists.proofs.Members.{_∈_, _⊆_, hasAll-in, hasAll-out, length-snoc, range-out}
+use Rattle.lists.proofs.Tests.{T-both, eq→eqb, pick-elim}
 use Rattle.graph.specs.Graph.{Graph, rowNumbers}
 use Rattle.graph.specs.Paths.{Key}
 use Rattle.graph.proofs.Growth.{Legal, State, after, past, rowsOf, start}
@@ -31,6 +32,7 @@ use Rattle.graph.proofs.Parts.{FirstIn, LastIn, NextIn}
 use Rattle.graph.proofs.Unique.{completion-length}
 use Rattle.graph.proofs.Walk.{Legals, stateAfter, stateAfter-length, stateAfter-snoc}
 use Rattle.forests.proofs.Cuts.{cut-distinct}
+use Rattle.bounds.proofs.Missing.{rows-map}
 use Rattle.bounds.proofs.Prefix.{AfterIn, NoneAfterIn}
 use Rattle.states.specs.States.{mustRow, treesWith}
 use Rattle.states.proofs.Rest.{Begun}
@@ -45,10 +47,11 @@ use Rattle.chart.specs.Chart.{firstsIn, graphIn, mustsIn, nextIn, nodesIn, widt
 use Rattle.search.specs.Search.{orElse}
 use Rattle.paths.specs.Path.{enteredBy, noKey}
 use Rattle.grow.specs.Grow.{freshAfter, openPast}
-use Rattle.grow.specs.Musts.{firstOf}
+use Rattle.grow.specs.Musts.{firstOf, mustsMet}
 use Rattle.grow.proofs.Grow.{entered-after, entered-step, fresh-ready, open-past, ready-after, ready-back, ready-bound, step-kept}
+use Rattle.grow.proofs.Leads.{MustsLead, musts-met, tree-leads}
 use Rattle.grow.proofs.Musts.{GrownWith, grow-accepts, grow-full, grown-ends}
-use Rattle.walk.specs.Walk.{afterFrom, afterOf, besideOf, onOf, skipOf}
+use Rattle.walk.specs.Walk.{afterFrom, afterOf, besideOf, firstIn, onOf, skipOf}
 
 -- what an answer says of the step k at the state s, which the steps `keys` lead to
 abbrev Skipped : Graph → State → List ℕ → List Key → Key → Option (List Key) → Type 0
@@ -144,6 +147,12 @@ module _ {c : List ℕ} (right : Charts c) where
   begun-first : Begun (graphIn c) (start (graphIn c))
   begun-first = begun-start (graphIn c) (right .charted .formed)
 
+  -- a path with all must rows has as many steps as a tree has rows
+  full-long : (ks : List Key) → Full (graphIn c) (start (graphIn c)) (mustsIn c) ks → length ks ≡ widthIn c
+  full-long ks f =
+      let sound = sound-start (graphIn c) (right .charted .formed) in
+      omega (arith, right .wide, completion-length (graphIn c) (rowNumbers (graphIn c)) (start (graphIn c)) ks (right .charted .formed .once) sound (f .completes))
+
   module _ (ks : List Key) (f : Full (graphIn c) (start (graphIn c)) (mustsIn c) ks) (len : ℕ) where
     abbrev js : List Key
     js = take len ks
@@ -164,7 +173,8 @@ module _ {c : List ℕ} (right : Charts c) where
     skipAt i fresh = skipOf c (graphIn c .plant) (widthIn c - i) (freshAt i fresh) (take i js) (stepAt i)
 
     -- the path at a step of js
-    path-at : (i : ℕ) → i < length js → Legals (graphIn c) (rowNumbers (graphIn c)) (start (graphIn c)) (take i js) × Full (graphIn c) (stateAt i) (dueAt i) (stepAt i ∷ (drop (suc i) js ++ drop len ks))
+    path-at : (i : ℕ) → i < length js → Legals (graphIn c) (rowNumbers (graphIn c)) (start (graphIn c)) (take i js)
+        × Full (graphIn c) (stateAt i) (dueAt i) (stepAt i ∷ (drop (suc i) js ++ drop len ks))
     path-at i h =
         full-part (start (graphIn c)) (mustsIn c) (take i js) (stepAt i ∷ (drop (suc i) js ++ drop len ks))
         (subst (Full (graphIn c) (start (graphIn c)) (mustsIn c)) (sym (take-append-drop len ks) ∙ ap (λ (l : List Key). l ++ drop len ks) (split-at js i noKey h)
@@ -182,12 +192,13 @@ module _ {c : List ℕ} (right : Charts c) where
         let step : stateAt (suc i) ≡ after (stateAt i) (stepAt i) =
         ap (stateAfter (start (graphIn c))) (take-suc js i noKey h) ∙ stateAfter-snoc (start (graphIn c)) (take i js) (stepAt i) in
         let ready = ready-back (right .charted) (b .sound) (on .completes .0) (subst (λ (s : State). Ready (graphIn c) s fresh) step a) in
-        let long = completion-length (graphIn c) (rowNumbers (graphIn c)) (start (graphIn c)) ks (right .charted .formed .once) (sound-start (graphIn c) (right .charted .formed)) (f .completes) in
+        let long = full-long ks f in
         let short = length-take len ks in
         let at = length-take-le i js (omega arith) in (
           ready,
           skip-right right (stateAt i) (dueAt i) (take i js) (stepAt i) (drop (suc i) js ++ drop len ks) (widthIn c - i) _
-              (entered-after (graphIn c) (take i js)) b ready (dueAfter-distinct (mustsIn c) (take i js) (musts-once c)) (due-walk (graphIn c) (mustsIn c) (start (graphIn c)) (mustsIn c) (take i js) (due-all (graphIn c) (start (graphIn c)) (mustsIn c)) before)
+              (entered-after (graphIn c) (take i js)) b ready (dueAfter-distinct (mustsIn c) (take i js) (musts-once c))
+              (due-walk (graphIn c) (mustsIn c) (start (graphIn c)) (mustsIn c) (take i js) (due-all (graphIn c) (start (graphIn c)) (mustsIn c)) before)
               on (omega (arith, small c, right .wide)) (omega (arith, right .wide, stateAfter-length (start (graphIn c)) (take i js))),
         )
 
@@ -232,7 +243,7 @@ module _ {c : List ℕ} (right : Charts c) where
     -- with all steps of the path
     module _ (whole : widthIn c ≤ len) where
       all-keys : take len ks ≡ ks
-      all-keys = take-all len ks (omega (arith, completion-length (graphIn c) (rowNumbers (graphIn c)) (start (graphIn c)) ks (right .charted .formed .once) (sound-start (graphIn c) (right .charted .formed)) (f .completes), right .wide))
+      all-keys = take-all len ks (omega (arith, full-long ks f))
 
       pub next-path : (ls : List Key) → afterIn ks len ≡ some ls → NextIn (graphIn c) (treesWith (graphIn c) (mustsIn c)) (rowsOf ks) (rowsOf ls)
       next-path ls e =
@@ -254,13 +265,15 @@ module _ {c : List ℕ} (right : Charts c) where
   same-keys = first-grown .whole
 
   first-ends : (graphIn c .nodes ⊆ stateAfter (start (graphIn c)) (first-grown .more) .entered)
-      ⊎ ((m : Key) → Legal (graphIn c) (rowNumbers (graphIn c)) (stateAfter (start (graphIn c)) (first-grown .more)) m → ¬ Accepted (graphIn c) (stateAfter (start (graphIn c)) (first-grown .more)) (mustsIn c) m)
+      ⊎ ((m : Key) → Legal (graphIn c) (rowNumbers (graphIn c)) (stateAfter (start (graphIn c)) (first-grown .more)) m
+      → ¬ Accepted (graphIn c) (stateAfter (start (graphIn c)) (first-grown .more)) (mustsIn c) m)
   first-ends = grown-ends right (widthIn c) begun-first (omega (arith, right .wide)) first-grown
 
   -- with as many steps as a path has, all nodes are entered
   first-all : length (first-grown .more) ≡ widthIn c → graphIn c .nodes ⊆ stateAfter (start (graphIn c)) (first-grown .more) .entered
   first-all e =
-      let sound = begun-walk (graphIn c) (mustsIn c) (start (graphIn c)) (first-grown .more) begun-first (accepts-legal (graphIn c) (mustsIn c) (start (graphIn c)) (first-grown .more) (first-grown .accepts)) .sound in
+      let legals = accepts-legal (graphIn c) (mustsIn c) (start (graphIn c)) (first-grown .more) (first-grown .accepts) in
+      let sound = begun-walk (graphIn c) (mustsIn c) (start (graphIn c)) (first-grown .more) begun-first legals .sound in
       filled ℕ-discrete (stateAfter (start (graphIn c)) (first-grown .more) .entered) (graphIn c .nodes) (sound .once) (sound .nodes)
       (omega (arith, right .wide, stateAfter-length (start (graphIn c)) (first-grown .more)))
 
@@ -269,16 +282,45 @@ module _ {c : List ℕ} (right : Charts c) where
       subst (LeastFull (graphIn c) (start (graphIn c)) (mustsIn c)) (sym same-keys)
       (accepts-first (graphIn c) (right .charted .formed) (mustsIn c) (musts-once c) (first-grown .more) (first-grown .accepts) first-ends p m)
 
-  pub first-path : (p : List ℕ) → p ∈ treesWith (graphIn c) (mustsIn c) → Full (graphIn c) (start (graphIn c)) (mustsIn c) firstPath × FirstIn (graphIn c) (treesWith (graphIn c) (mustsIn c)) (rowsOf firstPath)
+  pub first-path : (p : List ℕ) → p ∈ treesWith (graphIn c) (mustsIn c)
+      → Full (graphIn c) (start (graphIn c)) (mustsIn c) firstPath × FirstIn (graphIn c) (treesWith (graphIn c) (mustsIn c)) (rowsOf firstPath)
   first-path p m = let l = first-least p m in (l .full, first-with (graphIn c) (right .charted .formed) (mustsIn c) firstPath l)
 
   -- as far as it goes it has all must rows exactly if there is a tree that has
   pub some-path : ((p : List ℕ) × (p ∈ treesWith (graphIn c) (mustsIn c))) ↔ ((length firstPath ≡ widthIn c) × ((mustsIn c) ⊆ rowsOf firstPath))
   some-path = (
     λ (p, m). let l = first-least p m in (
-      omega (arith, right .wide, completion-length (graphIn c) (rowNumbers (graphIn c)) (start (graphIn c)) firstPath (right .charted .formed .once) (sound-start (graphIn c) (right .charted .formed)) (l .full .completes)),
+      full-long firstPath (l .full),
       l .full .all,
     ),
     λ (e, w). accepts-decide (graphIn c) (right .charted .formed) (mustsIn c) (musts-once c) (first-grown .more) (first-grown .accepts) first-ends .1
         (first-all (ap length (sym same-keys) ∙ e), subst (λ (l : List Key). (mustsIn c) ⊆ rowsOf l) same-keys w),
   )
+
+  -- what the code answers: its must rows are asked for only where a node is at the end of one
+  abbrev Told : Option (List Key) → Type 0
+  Told none = (p : List ℕ) → ¬ (p ∈ treesWith (graphIn c) (mustsIn c))
+  Told (some keys) = MustsLead c → Full (graphIn c) (start (graphIn c)) (mustsIn c) keys × FirstIn (graphIn c) (treesWith (graphIn c) (mustsIn c)) (rowsOf keys)
+
+  first-told : Told (firstIn c)
+  unfolding firstIn
+  first-told =
+      let rows = map (λ (k : Key). k .row) firstPath in
+      let long = eqb (length firstPath) (widthIn c) in
+      pick-elim Told (both long (mustsMet c rows))
+      (λ t lead.
+      let (e, met) = T-both long (mustsMet c rows) .0 t in
+      let all = hasAll-out (mustsIn c) rows (subst (λ (b : Bool). T b) (musts-met lead rows) met) in
+      let (p, m) = some-path .1 (eqb→eq _ _ e, rw (← rows-map firstPath) at all) in
+      first-path p m)
+      (λ n p m.
+      let (e, all) = some-path .0 (p, m) in
+      let met = subst (λ (b : Bool). T b) (sym (musts-met (tree-leads right p m) rows)) (hasAll-in (mustsIn c) rows (rw (← rows-map firstPath) all)) in
+      n (T-both long (mustsMet c rows) .1 (eq→eqb _ _ e, met)))
+
+  pub first-some : MustsLead c → (keys : List Key) → firstIn c ≡ some keys
+      → Full (graphIn c) (start (graphIn c)) (mustsIn c) keys × FirstIn (graphIn c) (treesWith (graphIn c) (mustsIn c)) (rowsOf keys)
+  first-some lead keys e = subst Told e first-told lead
+
+  pub first-none : firstIn c ≡ none → (p : List ℕ) → ¬ (p ∈ treesWith (graphIn c) (mustsIn c))
+  first-none e = subst Told e first-told

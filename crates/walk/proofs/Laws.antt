@@ -1,13 +1,15 @@
--- What each way through the code does to what is computed: a step is skipped or not, and the whole answer equals what the rest of the walk back answers.
+-- What each way through the code does to what is computed: a step is skipped or not, and the whole answer equals what the rest of the walk back answers; and the first path is
+-- an answer or not.
 use mathlib.Core.Path.{_≡_, refl}
-use mathlib.Core.Bool.{false, true}
+use mathlib.Core.Bool.{Bool, false, true}
 use mathlib.Core.Option.{Option, none, some}
-use mathlib.Core.List.{List}
+use mathlib.Core.List.{List, map}
 use Prim.Native.Nat.{_-_, _<_, _≤_, min, suc, zero, ℕ}
 use native.Mathlib.Omega.{arith}
 use lib.Bits.{bitOr}
 use borrow.Author.Tests.{eq-eqb, ne-eqb}
 use lib.ListN.{getD, length, take}
+use Rattle.lists.specs.Lists.{pick}
 use Rattle.lists.proofs.Ascending.{take-min}
 use Rattle.graph.specs.Paths.{Key}
 use Rattle.states.specs.States.{mustRow}
@@ -16,8 +18,8 @@ use Rattle.chart.specs.Chart.{firstsIn, nextIn, nodesIn, widthIn}
 use Rattle.search.specs.Search.{orElse}
 use Rattle.paths.specs.Path.{enteredBy, keysOf, noKey}
 use Rattle.grow.specs.Grow.{freshAfter, openPast}
-use Rattle.grow.specs.Musts.{growWith}
-use Rattle.walk.specs.Walk.{afterFrom, afterOf, besideOf, nextOf, onOf, skipOf}
+use Rattle.grow.specs.Musts.{firstOf, growWith, mustsMet}
+use Rattle.walk.specs.Walk.{afterFrom, afterOf, besideOf, firstIn, nextOf, onOf, skipOf}
 use Rattle.walk.specs.declared.Next.{Next}
 
 module _ (c : List ℕ) (plant : ℕ) where
@@ -73,3 +75,13 @@ next-some n o t = rw t
 
 pub next-none : (n : Next) (o : Option (List Key)) → n .some ≡ false → orElse (nextOf n) o ≡ o
 next-none n o t = rw t
+
+-- The first path, where it is too short, and where the must rows are asked for
+module _ (c : List ℕ) (keys : List Key) (grown : keys ≡ firstOf c) where
+  pub first-short : ¬ (length keys ≡ widthIn c) → none ≡ firstIn c
+  unfolding firstIn
+  first-short n = rw (← grown, ne-eqb _ _ n)
+
+  pub first-asked : {met : Bool} → length keys ≡ widthIn c → met ≡ mustsMet c (map (λ (k : Key). k .row) keys) → pick met (some keys) none ≡ firstIn c
+  unfolding firstIn
+  first-asked e m = rw (← grown, eq-eqb _ _ e, ← m)

@@ -1,13 +1,13 @@
--- The walk over the paths that have all must rows, as a computation: the next such path behind all that begin alike. A step by a must row is not skipped.
+-- The walk over the paths that have all must rows, as a computation: the first such path, and the next behind all that begin alike. A step by a must row is not skipped.
 -- `c` is a chart, `plant` the plant of the path that is given.
 use mathlib.Core.Option.{Option, none, some}
-use mathlib.Core.List.{List}
+use mathlib.Core.List.{List, map}
 use mathlib.Core.Bool.{true}
 use Prim.Native.Nat.{_-_, _%_, min, suc, zero, ℕ}
 use lib.Bits.{bitOr}
 use lib.Dec.{eqb}
 use lib.ListN.{getD, length, take}
-use Rattle.lists.specs.Lists.{pick}
+use Rattle.lists.specs.Lists.{both, pick}
 use Rattle.graph.specs.Paths.{Key}
 use Rattle.states.specs.States.{mustRow}
 use Rattle.chart.specs.Chart.{firstsIn, nextIn, nodesIn, widthIn}
@@ -15,7 +15,7 @@ use Rattle.words.specs.Words.{bit, minus}
 use Rattle.search.specs.Search.{orElse}
 use Rattle.paths.specs.Path.{enteredBy, extendedBy, keysOf, noKey}
 use Rattle.grow.specs.Grow.{freshAfter, openPast}
-use Rattle.grow.specs.Musts.{growWith}
+use Rattle.grow.specs.Musts.{firstOf, growWith, mustsMet}
 use Rattle.walk.specs.declared.Next.{Next}
 
 -- what the code answers for a path that may be missing
@@ -59,3 +59,7 @@ module _ (c : List ℕ) (plant : ℕ) where
   afterOf keys len =
       let i = min len (length keys) in
       afterFrom i (freshAfter (nodesIn c) (enteredBy plant (take i keys))) keys
+
+-- the first path of all, if it has as many steps as a tree has rows, and all must rows
+unfoldable pub firstIn : List ℕ → Option (List Key)
+firstIn c = pick (both (eqb (length (firstOf c)) (widthIn c)) (mustsMet c (map (λ (k : Key). k .row) (firstOf c)))) (some (firstOf c)) none

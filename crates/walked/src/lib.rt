@@ -40,7 +40,8 @@ fn offer(
     path: Path,
 ) -> Scratch
     requires { ⌜ Accepted (now file) × (k ≡ sizesOf (now file) .k) ⌝ }
-    ensures { λ r. ⌜ record { scratch = r; costs = now (costs .exit); witnesses = now (witnesses .exit) } ≡ offerOf (now (known .entry)) count (now (costs .entry)) (now (witnesses .entry)) scratchRows scratch (costOf (networkOf (now (file .entry))) (rowsIn path)) (rowsIn path) ⌝ }
+    ensures { λ r. ⌜ record { scratch = r; costs = now (costs .exit); witnesses = now (witnesses .exit) }
+        ≡ offerOf (now (known .entry)) count (now (costs .entry)) (now (witnesses .entry)) scratchRows scratch (costOf (networkOf (now (file .entry))) (rowsIn path)) (rowsIn path) ⌝ }
 {
     let vector = vector::vector(file, path);
     let rows = path.rows;
@@ -129,7 +130,8 @@ fn passes(
 
 /// Front: the first vectors of the front, as many as fit, each with the first tree of the list that has it.
 pub fn front(file: &[u8], costs: &mut [u32], witnesses: &mut [u16]) -> FrontAnswer
-    ensures { λ r. ⌜ record { outcome = frontedOf r; buffers = record { costs = now (costs .exit); witnesses = now (witnesses .exit) } } ≡ frontCall (now (file .entry)) (now (costs .entry)) (now (witnesses .entry)) ⌝ }
+    ensures { λ r. ⌜ record { outcome = frontedOf r; buffers = record { costs = now (costs .exit); witnesses = now (witnesses .exit) } }
+        ≡ frontCall (now (file .entry)) (now (costs .entry)) (now (witnesses .entry)) ⌝ }
 {
     let mut chart = [0u64; chart::LENGTH];
     let opened = listed::listed(file, &mut chart);

@@ -19,7 +19,8 @@ struct Streets {
 
 // How many usable rows of each street cost more than it has paid.
 fn sharers_of(costs: &[u32], leads: &[u8], c: u8, days: [u32; 256], flags: &[u8]) -> [u16; 256]
-    ensures { λ r. ⌜ ((lead : ℕ) → lead < 256 → getD r lead 0 ≡ length (filterB (λ q. both (eqb (leadIn (now (leads .entry)) q) lead) (ltb (getD days lead 0) (costIn (now (costs .entry)) c q))) (rowsOn (now (flags .entry))))) ⌝ }
+    ensures { λ r. ⌜ ((lead : ℕ) → lead < 256 → getD r lead 0
+        ≡ length (filterB (λ q. both (eqb (leadIn (now (leads .entry)) q) lead) (ltb (getD days lead 0) (costIn (now (costs .entry)) c q))) (rowsOn (now (flags .entry))))) ⌝ }
 {
     let mut sharers = [0u16; 256];
     let mut r: usize = 0;
@@ -42,7 +43,9 @@ fn sharers_of(costs: &[u32], leads: &[u8], c: u8, days: [u32; 256], flags: &[u8]
 
 // An added criterion has streets that have paid nothing and one row each, the worst has none that share.
 fn streets_of(kind: u8, costs: &[u32], leads: &[u8], c: u8, inc: Chosen, flags: &[u8]) -> Streets
-    ensures { λ r. ⌜ ((q : ℕ) → shareIn (costIn (now (costs .entry)) c q - getD (r .days) (leadIn (now (leads .entry)) q) 0) (getD (r .sharers) (leadIn (now (leads .entry)) q) 0) ≡ rateIn kind (now (costs .entry)) (now (leads .entry)) c (rowsOf inc) (rowsOn (now (flags .entry))) q) ⌝ }
+    ensures { λ r. ⌜ ((q : ℕ)
+        → shareIn (costIn (now (costs .entry)) c q - getD (r .days) (leadIn (now (leads .entry)) q) 0) (getD (r .sharers) (leadIn (now (leads .entry)) q) 0)
+        ≡ rateIn kind (now (costs .entry)) (now (leads .entry)) c (rowsOf inc) (rowsOn (now (flags .entry))) q) ⌝ }
 {
     match kind {
         0 => Streets {
@@ -87,7 +90,8 @@ fn rate_of(
     sharers: &[u16; 256],
     row: u8,
 ) -> u64
-    ensures { λ r. ⌜ (r ≡ shareIn (costIn (now (costs .entry)) c row - getD (now (days .entry)) (leadIn (now (leads .entry)) row) 0) (getD (now (sharers .entry)) (leadIn (now (leads .entry)) row) 0)) × (r ≤ 4294967295 * 840) ⌝ }
+    ensures { λ r. ⌜ (r ≡ shareIn (costIn (now (costs .entry)) c row - getD (now (days .entry)) (leadIn (now (leads .entry)) row) 0) (getD (now (sharers .entry)) (leadIn (now (leads .entry)) row) 0))
+        × (r ≤ 4294967295 * 840) ⌝ }
 {
     let lead = slices::byte_at(leads, row as usize) as usize;
     share_of(
@@ -107,7 +111,10 @@ fn weigh(
     weights: [u64; 256],
 ) -> [u64; 256]
     requires { ⌜ ((q : ℕ) → q < 256 → getD weights q 0 ≤ 3 * 288230376151711744) ⌝ }
-    ensures { λ r. ⌜ ((q : ℕ) → q < 256 → (getD r q 0 ≡ getD weights q 0 + pick (isOn (now (flags .entry)) q) (shareIn (costIn (now (costs .entry)) c q - getD (streets .days) (leadIn (now (leads .entry)) q) 0) (getD (streets .sharers) (leadIn (now (leads .entry)) q) 0) * factor) 0) × (getD r q 0 ≤ getD weights q 0 + 288230376151711744)) ⌝ }
+    ensures { λ r. ⌜ ((q : ℕ) → q < 256 → (getD r q 0
+        ≡ getD weights q 0 + pick (isOn (now (flags .entry)) q)
+        (shareIn (costIn (now (costs .entry)) c q - getD (streets .days) (leadIn (now (leads .entry)) q) 0) (getD (streets .sharers) (leadIn (now (leads .entry)) q) 0) * factor) 0)
+        × (getD r q 0 ≤ getD weights q 0 + 288230376151711744)) ⌝ }
 {
     let days = streets.days;
     let sharers = streets.sharers;

@@ -67,4 +67,5 @@ module _ (ds ms : List ℕ) (long : 1024 ≤ length ds) (wide : 1024 ≤ length 
   pub added : (x y : ℕ) (p : Weight) (d m : List ℕ) → x < 32 → y < 32 → ¬ (x ≡ y) → record { dropped = d; merged = m } ≡ addTo ds ms x y p → Added ds ms x y p d m
   unfolding addTo
   added x y p d m i j n e =
-      subst (λ (a : Arrays). Added ds ms x y p (a .dropped) (a .merged)) (sym (e ∙ (simp (lt-ltb x 32 i, lt-ltb y 32 j, le-leb 1024 (length ds) long, le-leb 1024 (length ms) wide)))) (stored x y p i j n)
+      subst (λ (a : Arrays). Added ds ms x y p (a .dropped) (a .merged))
+      (sym (e ∙ (simp (lt-ltb x 32 i, lt-ltb y 32 j, le-leb 1024 (length ds) long, le-leb 1024 (length ms) wide)))) (stored x y p i j n)

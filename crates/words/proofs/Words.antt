@@ -6,7 +6,7 @@ use mathlib.Core.Logic.{_↔_, _⊎_, inl, inr, ⊎-elim}
 use mathlib.Core.List.{List, [], _∷_, map}
 use Prim.Native.Nat.{_%_, _*_, _+_, _-_, _/_, _<_, _^_, _≤_, suc, zero, ℕ}
 use native.Mathlib.Decide.{decLt, ℕ-discrete}
-use native.Mathlib.Nat.{div-eq-of-lt, div-mul-le-self, mod-eq-of-lt, pow-suc, zero-div}
+use native.Mathlib.Nat.{div-eq-of-lt, mod-eq-of-lt, pow-suc, zero-div}
 use native.Mathlib.Numerals.{add-one}
 use native.Mathlib.Omega.{arith}
 use lib.Arith.{bin-ind}
@@ -155,10 +155,6 @@ or-assoc a b c = words-same (bitOr (bitOr a b) c) (bitOr a (bitOr b c)) (λ v. s
 pub or-le : (a b : ℕ) → a ≤ bitOr a b
 or-le a b = omega (arith, or-add-and a b, and-le-r a b)
 
-pub above-le : (w u : ℕ) → above w u ≤ w
-unfolding above
-above-le w u = div-mul-le-self w (2 ^ suc u)
-
 -- a word whose members are all below k
 pub words-below : (k w : ℕ) → ((v : ℕ) → T (has w v) → v < k) → w < 2 ^ k
 words-below zero w h =
@@ -266,10 +262,6 @@ trailing-least (suc k) w v h =
 pub lowest-in : (w : ℕ) → 0 < w → w < 2 ^ 64 → T (has w (lowest w))
 unfolding lowest
 lowest-in w p h = trailing-in 64 w p h
-
-pub lowest-least : (w v : ℕ) → v < lowest w → has w v ≡ false
-unfolding lowest
-lowest-least w v h = trailing-least 64 w v h
 
 trailing-or : (k w : ℕ) → T (has w (trailingZeros k w)) ⊎ (trailingZeros k w ≡ k)
 unfolding trailingZeros

@@ -1,86 +1,102 @@
--- The loop's invariant: with the first r rows entered the chart is what it is to become. The measure is r.
-use mathlib.Core.Path.{_∙_, _≡_, ap, refl, sym}
+use mathlib.Core.Path.{_∙_, _≡_, ap, sym}
+use Prim.Native.Nat.{_*_, _≤_}
 use native.Mathlib.Omega.{arith}
 use borrow.Author.Needs.{needs}
 use Rattle.network_file.specs.File.{Sizes, networkOf}
-use Rattle.chart.specs.Chart.{enteredDown}
-use Rattle.chart.proofs.Files.{file-start, file-turn}
+use Rattle.fields.proofs.Laws.{row-reach}
+use Rattle.chart.specs.Chart.{enteredDown, fileChartOn}
+use Rattle.chart.proofs.Files.{file-start}
 use Rattle.chart.proofs.of_file.Statement.{statement}
 use Rattle.chart.proofs.of_file.Tie as tie
 
-abbrev Inv-loop : tie.InvT-loop
-Inv-loop file chart₀ n m r₀ chart r = enteredDown (networkOf file .rows) r₀ chart₀ ≡ enteredDown (networkOf file .rows) r chart
-
-abbrev μ-loop : tie.MeasureT-loop
-μ-loop file chart₀ n m r₀ chart r = r
-
-header-of-requires : tie.Need-header-of-requires Inv-loop μ-loop
+header-of-requires : tie.Need-header-of-requires
 header-of-requires c κs = search needs
 
-cast-m : tie.Need-cast-m Inv-loop μ-loop
+cast-m : tie.Need-cast-m
 cast-m c = search needs
 
-up-to-requires : tie.Need-up-to-requires Inv-loop μ-loop
+up-to-requires : tie.Need-up-to-requires
 up-to-requires c κs = search needs
 
-tree-rows-requires : tie.Need-tree-rows-requires Inv-loop μ-loop
+tree-rows-requires : tie.Need-tree-rows-requires
 tree-rows-requires c κs = search needs
 
-begin-requires : tie.Need-begin-requires Inv-loop μ-loop
+begin-requires : tie.Need-begin-requires
 begin-requires c κs = search needs
 
-placed-requires : tie.Need-placed-requires Inv-loop μ-loop
+placed-requires : tie.Need-placed-requires
 placed-requires c κs = search needs
 
-loop-holds : tie.Need-loop-holds Inv-loop μ-loop
-loop-holds c = refl
+cast-end : tie.Need-cast-end
+cast-end c = search needs
 
-sub-r : tie.Need-sub-r Inv-loop μ-loop
-sub-r c = search needs
+add-end : tie.Need-add-end
+add-end c = search needs
 
-row-at-requires : tie.Need-row-at-requires Inv-loop μ-loop
-row-at-requires c κs = search needs
+row-bytes-requires : tie.Need-row-bytes-requires
+row-bytes-requires c κs = search needs
 
-enter-requires : tie.Need-enter-requires Inv-loop μ-loop
-enter-requires c κs = search needs
+-- the rows that have a place do not reach beyond a word's range
+reach : (c : tie.After-row-bytes) → c .before .before .placed .result * c .row-bytes .result ≤ 65536 * 1025
+reach c =
+    let placed = c .before .before in
+    let read = placed .before .before .before .before .before .before in
+    let k = ap (λ (s : Sizes). s .k) (read .header-of .ensures) in
+    rw (c .row-bytes .ensures) (row-reach _ (placed .placed .result) (omega (arith, placed .placed .ensures .1)) (omega (arith, k, c .before .struct-known2 .given)))
 
-loop-less : tie.Need-loop-less Inv-loop μ-loop
-loop-less c = search needs
+mul-end : tie.Need-mul-end
+mul-end c = omega (arith, reach c)
 
-loop-again : tie.Need-loop-again Inv-loop μ-loop
-loop-again c =
-    let read = c .before .before in
-    let turn = read .before in
-    turn .before .loop .inv ∙ file-turn _ _ _ (read .row-at .result) (turn .loop-test .taken) (read .row-at .ensures) ∙ rw (c .enter .ensures)
+add-end-2 : tie.Need-add-end-2
+add-end-2 c = omega (arith, reach c)
 
-returns : tie.Need-returns Inv-loop μ-loop
-unfolding enteredDown
-returns c =
-    let counted = c .before .before in
-    let begun = counted .before in
-    let rowed = begun .before in
+enter-whole-requires : tie.Need-enter-whole-requires
+enter-whole-requires c κs =
+    let bytes = c .before .before in
+    let placed = bytes .before .before in
+    let header = placed .before .before .before .before .before .before .header-of .ensures in
+    record {
+      within = omega (arith, ap (λ (s : Sizes). s .m) header, placed .placed .ensures .0);
+      few = placed .placed .ensures .1;
+      start = rw (ap (λ (s : Sizes). s .k) header, bytes .row-bytes .ensures);
+      long = c .before .if1 .taken;
+    }
+
+enter-cut-requires : tie.Need-enter-cut-requires
+enter-cut-requires c κs = search needs
+
+-- the chart is begun, and the rows that have a place are left
+begun : (c : tie.After-placed)
+    → let start = c .before .before .before .before .before .before .before .before in
+    fileChartOn (start .args .file .now) (start .args .chart .now) ≡ enteredDown (networkOf (start .args .file .now) .rows) (c .placed .result) (c .before .begin .last .0)
+begun c =
+    let rowed = c .before .before in
     let header = rowed .before .before .before .before .header-of .ensures in
-    let none : c .before .loop .r ≡ 0 = omega (arith, c .loop-test .left) in
-    sym (file-start _ _ _ _ _ _ _ _ (ap (λ (s : Sizes). s .n) header) (ap (λ (s : Sizes). s .m) header)
-    (rowed .before .up-to .ensures) (rowed .tree-rows .ensures) (begun .begin .ensures) (counted .placed .ensures .0)
-    ∙ c .before .loop .inv ∙ rw none)
+    file-start _ _ _ _ _ _ _ _ (ap (λ (s : Sizes). s .n) header) (ap (λ (s : Sizes). s .m) header)
+    (rowed .before .up-to .ensures) (rowed .tree-rows .ensures) (c .before .begin .ensures) (c .placed .ensures .0)
+
+returns : tie.Need-returns
+returns c = c .enter-whole .ensures ∙ sym (begun (c .before .before .before .before .before))
+
+returns-2 : tie.Need-returns-2
+returns-2 c = c .enter-cut .ensures ∙ sym (begun (c .before .before .before .before .before))
 
 pub of-file-spec : {M : Type 1} → statement M
 of-file-spec =
     tie.close
     (tie.spec
-    Inv-loop
-    μ-loop
     header-of-requires
     cast-m
     up-to-requires
     tree-rows-requires
     begin-requires
     placed-requires
-    loop-holds
-    sub-r
-    row-at-requires
-    enter-requires
-    loop-less
-    loop-again
-    returns)
+    cast-end
+    add-end
+    row-bytes-requires
+    mul-end
+    add-end-2
+    enter-whole-requires
+    enter-cut-requires
+    returns
+    returns-2)

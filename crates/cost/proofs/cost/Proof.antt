@@ -34,7 +34,8 @@ abbrev criteria : tie.After-vector → ℕ
 criteria c = c .before .before .before .header-of .result .k
 
 sized : (c : tie.After-vector) → criteria c ≡ length (take (criteria c) (c .vector .result))
-sized c = part-length _ _ _ (c .before .before .before .before .before .drawn .ensures) (c .before .before .before .before .if1 .left) (c .before .before .before .header-of .ensures) (c .vector .ensures)
+sized c = part-length _ _ _ (c .before .before .before .before .before .drawn .ensures) (c .before .before .before .before .if1 .left)
+    (c .before .before .before .header-of .ensures) (c .vector .ensures)
 
 array-share-prefix-costs : tie.Need-array-share-prefix-costs
 array-share-prefix-costs c = omega (arith, sized c, length-take (criteria c) (c .vector .result))

@@ -1,5 +1,5 @@
--- The three functions that call each other meet their contracts. With each call the number of links left falls, or it is the same and the function is nearer to
--- `dropping`. The invariant of `by_links`: what was counted so far and what is left of v's links come to the whole count (`Linking`). Its measure is how many are left.
+-- The invariant of the loop of `by_links`: what was counted so far and what is left of v's links come to the whole count (`Linking`). Its measure is how many are left.
+-- Three functions call each other: with each call the number of links left falls, or it is the same and the function is nearer to `dropping`.
 use mathlib.Core.Path.{_∙_}
 use Prim.Native.Nat.{_*_, _+_, _-_, _<_, ℕ}
 use native.Mathlib.Omega.{arith}
@@ -9,7 +9,8 @@ use borrow.Fn.Kinds.{In}
 use borrow.Fn.PlainCycle.{Measures, is, falls, and}
 use Rattle.counts.proofs.Arrays.{merged-must}
 use Rattle.counted.specs.Counted.{linksLeft}
-use Rattle.counted.proofs.Steps.{Linking, answer-cleared, answer-enough, answer-merged, answer-next, answer-pair, answer-single, answer-zero, level-kept, linking-end, linking-next, linking-none, linking-one, linking-two, links-fewer}
+use Rattle.counted.proofs.Steps.{Linking, answer-cleared, answer-enough, answer-merged, answer-next, answer-pair, answer-single}
+use Rattle.counted.proofs.Steps.{answer-zero, level-kept, linking-end, linking-next, linking-none, linking-one, linking-two, links-fewer}
 use Rattle.counted.proofs.by_links.Reads as by-links
 use Rattle.counted.proofs.by_links.Kinds as by-links-kinds
 use Rattle.counted.proofs.+by_links+dropping+merging.Lts-by_links as by-links-lts
@@ -163,7 +164,8 @@ by-links-same-length-4 t c = search needs
 by-links-returns-2 : (t : ℕ) → by-links-lts.Need-returns-2 (by-links-calls t) (by-links-at t) by-links.Post by-links-Inv-loop by-links-μ-loop
 by-links-returns-2 t c =
     let x = c .before .before .before .before .before .before .before .before .before .before .before .before .before in
-    linking-one (x .before .before .before .before .loop .inv) _ _ _ _ (x .before .link-from .ensures) (x .if1 .left) (c .before .before .before .before .before .before .before .before .before .link-from2 .ensures) (c .before .before .before .before .before .before .before .before .if2 .taken)
+    linking-one (x .before .before .before .before .loop .inv) _ _ _ _ (x .before .link-from .ensures) (x .if1 .left)
+    (c .before .before .before .before .before .before .before .before .before .link-from2 .ensures) (c .before .before .before .before .before .before .before .before .if2 .taken)
     (c .before .before .before .before .before .times .ensures) (c .before .before .before .before .dropping .ensures .0)
 
 by-links-add-link-from-2 : (t : ℕ) → by-links-lts.Need-add-link-from-2 (by-links-calls t) (by-links-at t) by-links.Post by-links-Inv-loop by-links-μ-loop
@@ -186,10 +188,12 @@ by-links-same-length-6 t c = search needs
 
 by-links-returns-3 : (t : ℕ) → by-links-lts.Need-returns-3 (by-links-calls t) (by-links-at t) by-links.Post by-links-Inv-loop by-links-μ-loop
 by-links-returns-3 t c =
-    let y = c .before .before .before .before .before .before .before .before .before .before .before .before .before .before .before .before .before in
+    let z = c .before .before .before .before .before .before .before .before .before .before .before .before .before .before in
+    let y = z .before .before .before in
     let x = y .before .before .before .before .before in
     linking-two (x .before .before .before .before .loop .inv) _ _ _ _ _ (x .before .link-from .ensures) (x .if1 .left) (y .before .link-from2 .ensures) (y .if2 .left)
-    (c .before .before .before .before .before .before .before .before .before .before .before .before .before .before .before .link-from3 .ensures) (c .before .before .before .before .before .before .before .before .before .before .before .before .before .before .if3 .taken) (c .before .before .before .before .before .before .before .before .before .before .before .chained .ensures) (c .before .before .before .before .dropping2 .ensures .0)
+    (z .before .link-from3 .ensures) (z .if3 .taken)
+    (c .before .before .before .before .before .before .before .before .before .before .before .chained .ensures) (c .before .before .before .before .dropping2 .ensures .0)
 
 by-links-mul-dropped : (t : ℕ) → by-links-lts.Need-mul-dropped (by-links-calls t) (by-links-at t) by-links.Post by-links-Inv-loop by-links-μ-loop
 by-links-mul-dropped t c = search needs
@@ -282,7 +286,8 @@ dropping-same-length-2 : (t : ℕ) → dropping-lts.Need-same-length-2 (dropping
 dropping-same-length-2 t c = search needs
 
 dropping-returns-5 : (t : ℕ) → dropping-lts.Need-returns-5 (dropping-calls t) (dropping-at t) dropping.Post
-dropping-returns-5 t c = answer-cleared _ _ _ _ _ _ _ _ (search needs) (c .before .before .before .before .before .before .before .before .before .before .before .before .cleared .ensures) (c .before .before .before .before .by-links .ensures .0)
+dropping-returns-5 t c = answer-cleared _ _ _ _ _ _ _ _ (search needs) (c .before .before .before .before .before .before .before .before .before .before .before .before .cleared .ensures)
+    (c .before .before .before .before .by-links .ensures .0)
 
 dropping-mul-at : (t : ℕ) → dropping-lts.Need-mul-at (dropping-calls t) (dropping-at t) dropping.Post
 dropping-mul-at t c = search needs
@@ -311,14 +316,16 @@ dropping-slice-write-merged t c = search needs
 dropping-moved-requires : (t : ℕ) → dropping-lts.Need-moved-requires (dropping-calls t) (dropping-at t) dropping.Post
 dropping-moved-requires t c κs =
     let given = c .before .before .before .before .before .before .before .before .before .before .before .before .before .before .before .before .before .pre .1 in
-    (search needs, search needs, simp length-set (omega (arith, c .before .before .before .before .before .before .before .before .cleared .ensures .long, given .0, given .3)), simp length-set (omega (arith, given .0, given .4)))
+    let long = c .before .before .before .before .before .before .before .before .cleared .ensures .long in
+    (search needs, search needs, simp length-set (omega (arith, long, given .0, given .3)), simp length-set (omega (arith, given .0, given .4)))
 
 dropping-times-requires-2 : (t : ℕ) → dropping-lts.Need-times-requires-2 (dropping-calls t) (dropping-at t) dropping.Post
 dropping-times-requires-2 t c κs = search needs
 
 dropping-dropping-requires : (t : ℕ) → dropping-lts.Need-dropping-requires (dropping-calls t) (dropping-at t) dropping.Post
 dropping-dropping-requires t c κs =
-    let start = c .before .before .before .before .before .before .before .before .before .before .before .before .before .before .before .before .before .before .before .before .before .before .before .before .before in
+    let cleared = c .before .before .before .before .before .before .before .before .before .before .before .before .before .before .before .before in
+    let start = cleared .before .before .before .before .before .before .before .before .before in
     let given = start .pre .1 in
     let kept = c .before .before .before .before .before .before .before .moved .kept in (
       omega (arith, links-fewer (start .args .k) (search needs), start .pre .0),
@@ -326,26 +333,36 @@ dropping-dropping-requires t c κs =
         search needs,
         search needs,
         search needs,
-        rw (kept .0) (simp length-set (omega (arith, c .before .before .before .before .before .before .before .before .before .before .before .before .before .before .before .before .cleared .ensures .long, given .3))),
+        rw (kept .0) (simp length-set (omega (arith, cleared .cleared .ensures .long, given .3))),
         rw (kept .1 .0) (simp length-set (omega (arith, given .4))),
       ),
     )
 
 dropping-same-length-3 : (t : ℕ) → dropping-lts.Need-same-length-3 (dropping-calls t) (dropping-at t) dropping.Post
 dropping-same-length-3 t c =
-    let cleared = c .before .before .before .before .before .before .before .before .before .before .before .before .before .before .before .before .before .before .before .before .before .cleared in c .before .before .before .before .dropping .kept .0 ∙ c .before .before .before .before .before .before .before .before .before .before .before .before .moved .kept .0 ∙ length-set (cleared .last .0) _ _ ∙ cleared .ensures .long
+    let cleared = c .before .before .before .before .before .before .before .before .before .before .before .before .before .before .before .before .before .before .before .before .before .cleared in
+    let moved = c .before .before .before .before .before .before .before .before .before .before .before .before in
+    c .before .before .before .before .dropping .kept .0 ∙ moved .moved .kept .0 ∙ length-set (cleared .last .0) _ _ ∙ cleared .ensures .long
 
 dropping-same-length-4 : (t : ℕ) → dropping-lts.Need-same-length-4 (dropping-calls t) (dropping-at t) dropping.Post
-dropping-same-length-4 t c = c .before .before .before .before .dropping .kept .1 .0 ∙ c .before .before .before .before .before .before .before .before .before .before .before .before .moved .kept .1 .0 ∙ length-set (c .before .before .before .before .before .before .before .before .before .before .before .before .before .before .before .before .before .before .before .before .before .before .before .before .before .before .before .before .before .before .args .merged .now) _ _
+dropping-same-length-4 t c =
+    let moved = c .before .before .before .before .before .before .before .before .before .before .before .before in
+    let start = moved .before .before .before .before .before .before .before .before .before .before .before .before .before .before .before .before .before .before in
+    c .before .before .before .before .dropping .kept .1 .0 ∙ moved .moved .kept .1 .0 ∙ length-set (start .args .merged .now) _ _
 
 dropping-returns-6 : (t : ℕ) → dropping-lts.Need-returns-6 (dropping-calls t) (dropping-at t) dropping.Post
 dropping-returns-6 t c =
     let d = c .before .before .before .before .before .before .before .before .before .before .before .before .before .before .before .before .before .before .before .before .before .cleared in
     let x = c .before .before .before .before .before .before .before .before .before .before .before .before .before .before .before .before .before .must-link in
-    let a = c .before .before .before .before .before .before .before .before .before .before .before .before .before .before .before .before .before .before .before .before .before .before .before .before .before .before .before .before .before .before .args in
-    let given = c .before .before .before .before .before .before .before .before .before .before .before .before .before .before .before .before .before .before .before .before .before .before .before .before .before .before .before .before .before .before .pre .1 in
+    let a = c .before .before .before .before .before .before .before .before .before .before .before .before .before .before .before
+    .before .before .before .before .before .before .before .before .before .before .before .before .before .before .before .args in
+    let given = c .before .before .before .before .before .before .before .before .before .before .before .before .before .before .before
+    .before .before .before .before .before .before .before .before .before .before .before .before .before .before .before .pre .1 in
     answer-cleared _ _ _ _ _ _ _ _ (search needs) (d .ensures) (merged-must (d .last .0) (a .merged .now) (a .k - 1) (x .result)
-    (omega (arith, d .ensures .long, given .0, given .3)) (omega (arith, given .0, given .4)) (search needs) (search needs) _ _ _ _ _ (x .ensures .1 (search needs)) (c .before .before .before .before .before .times2 .ensures) (answer-merged _ _ _ _ _ _ (c .before .before .before .before .before .before .before .before .before .before .before .before .moved .ensures) (c .before .before .before .before .dropping .ensures .0) .0))
+    (omega (arith, d .ensures .long, given .0, given .3)) (omega (arith, given .0, given .4)) (search needs) (search needs) _ _ _ _ _
+    (x .ensures .1 (search needs)) (c .before .before .before .before .before .times2 .ensures)
+    (answer-merged _ _ _ _ _ _ (c .before .before .before .before .before .before .before .before .before .before .before .before .moved .ensures)
+    (c .before .before .before .before .dropping .ensures .0) .0))
 
 merging-copied-requires : (t : ℕ) → merging-lts.Need-copied-requires (merging-calls t) (merging-at t) merging.Post
 merging-copied-requires t c κs = search needs
@@ -385,10 +402,10 @@ merging-same-length-2 t c = search needs
 
 merging-returns : (t : ℕ) → merging-lts.Need-returns (merging-calls t) (merging-at t) merging.Post
 merging-returns t c =
-    let start = c .before .before .before .before .before .before .before .before .before .before .before .before .before .before .before .before .before .before .before .before .before .before .before .before in
     let first = c .before .before .before .before .before .before .before .before .before .before .before .before .before .before .before .before .before .before .before .before .copied .ensures in
     let second = c .before .before .before .before .before .before .before .before .before .before .before .before .before .before .before .before .copied2 .ensures in
-    let answers = answer-next _ _ _ _ _ (search needs) (search needs) (search needs) first second _ _ _ _ _ (search needs) (c .before .before .before .before .before .before .before .before .before .moved .ensures) (c .before .before .before .before .dropping .ensures .0) in
+    let answers = answer-next _ _ _ _ _ (search needs) (search needs) (search needs) first second _ _ _ _ _ (search needs)
+    (c .before .before .before .before .before .before .before .before .before .moved .ensures) (c .before .before .before .before .dropping .ensures .0) in
     (answers .0, answers .1, level-kept _ (search needs) first, level-kept _ (search needs) second)
 
 pub +by-links+dropping+merging-spec : {M : Type 1} → statement M

@@ -54,7 +54,8 @@ same-length-2 : tie.Need-same-length-2
 same-length-2 c = search needs
 
 returns : tie.Need-returns
-returns c = added-as (c .before .before .before .before .before .behind .ensures) (added _ _ (search needs) (search needs) _ _ _ _ _ (search needs) (search needs) (search needs) (c .before .before .before .before .add .ensures))
+returns c = added-as (c .before .before .before .before .before .behind .ensures)
+    (added _ _ (search needs) (search needs) _ _ _ _ _ (search needs) (search needs) (search needs) (c .before .before .before .before .add .ensures))
 
 pub chained-spec : {M : Type 1} → statement M
 chained-spec =

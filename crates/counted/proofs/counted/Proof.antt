@@ -55,7 +55,10 @@ dropping-requires c κs =
     )
 
 returns-2 : tie.Need-returns-2
-returns-2 c = counted-first _ _ _ _ _ _ _ _ (search needs) (search needs) (search needs) (c .before .before .before .before .before .before .before .before .before .before .copy-costs .ensures) (c .before .before .before .before .before .before .copy-costs2 .ensures) (nodes (c .before .before .before .before .before .before .before .before .before .before .before .before .before)) (c .before .before .dropping .ensures .0)
+returns-2 c =
+    let copied = c .before .before .before .before .before .before .before .before .before .before in
+    counted-first _ _ _ _ _ _ _ _ (search needs) (search needs) (search needs) (copied .copy-costs .ensures) (c .before .before .before .before .before .before .copy-costs2 .ensures)
+    (nodes (copied .before .before .before)) (c .before .before .dropping .ensures .0)
 
 pub counted-spec : {M : Type 1} → statement M
 counted-spec =

@@ -44,7 +44,9 @@ u32-at-requires c κs = omega (arith, narrow c)
 
 returns : tie.Need-returns
 returns c =
-    cost-read _ _ _ (c .before .before .before .before .before .before .before .header-of .ensures) (c .before .before .before .before .before .before .before .before .before .args .criterion) _ _ (c .before .before .before .before .if1 .taken) (c .before .before .before .if2 .taken)
+    let asked = c .before .before .before in
+    let header = asked .before .before .before .before in
+    cost-read _ _ _ (header .header-of .ensures) (header .before .before .args .criterion) _ _ (asked .before .if1 .taken) (asked .if2 .taken)
     (rw (c .before .state-width .ensures, c .before .before .row-start .ensures .0)) (c .u32-at .ensures)
 
 returns-2 : tie.Need-returns-2

@@ -25,7 +25,8 @@ returns c =
     let a = s .args in (
       λ e. absurd (subst T e tt),
       λ nodes given. judges-closed _ _ _ _ _ _ refl
-          (short given (a .kinds) (a .costs .now) (a .leads .now) (s .good .1 .1 .0 .1 .0 .1) (s .good .1 .1 .1 .1 .1 .1 .0 .1 .0 .1) (c .before .before .before .before .weights .result) (c .before .before .lightest .ensures) (λ e. c .if1 .taken (c .before .count .ensures .0 ∙ e))),
+          (short given (a .kinds) (a .costs .now) (a .leads .now) (s .good .1 .1 .0 .1 .0 .1) (s .good .1 .1 .1 .1 .1 .1 .0 .1 .0 .1)
+          (c .before .before .before .before .weights .result) (c .before .before .lightest .ensures) (λ e. c .if1 .taken (c .before .count .ensures .0 ∙ e))),
     )
 
 room-requires : tie.Need-room-requires
@@ -40,10 +41,12 @@ exceed-requires c κs = search needs
 returns-2 : tie.Need-returns-2
 returns-2 c =
     let s = c .before .before .before .before .before .before .before .before .before .before .before .before .before .before in
+    let weighed = c .before .before .before .before .before .before .before .before in
     let a = s .args in (
       λ e. absurd (subst T e tt),
       λ nodes given. judges-closed _ _ _ _ _ _ refl
-          (too-heavy given (a .kinds) (a .costs .now) (a .leads .now) (s .good .1 .1 .0 .1 .0 .1) (s .good .1 .1 .1 .1 .1 .1 .0 .1 .0 .1) (c .before .before .before .before .before .before .before .before .weights .result) (c .before .before .before .before .before .before .lightest .ensures) (a .factors) (c .before .before .before .before .before .before .before .before .weights .ensures) (c .before .before .before .room .ensures)
+          (too-heavy given (a .kinds) (a .costs .now) (a .leads .now) (s .good .1 .1 .0 .1 .0 .1) (s .good .1 .1 .1 .1 .1 .1 .0 .1 .0 .1)
+          (weighed .weights .result) (c .before .before .before .before .before .before .lightest .ensures) (a .factors) (weighed .weights .ensures) (c .before .before .before .room .ensures)
           (ltb→lt _ _ (T-true _ .1 (sym (c .before .exceed .ensures) ∙ c .if2 .taken)))),
     )
 

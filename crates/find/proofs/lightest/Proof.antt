@@ -21,10 +21,12 @@ sorted-requires : tie.Need-sorted-requires
 sorted-requires c κs = search needs
 
 array-share-prefix-rows : tie.Need-array-share-prefix-rows
-array-share-prefix-rows c = part-fits _ _ _ (c .before .sorted .ensures .0) (ap length (c .before .sorted .ensures .1) ∙ sort-length (keyLess (c .before .before .before .before .before .before .args .weights .now)) _)
+array-share-prefix-rows c = part-fits _ _ _ (c .before .sorted .ensures .0)
+    (ap length (c .before .sorted .ensures .1) ∙ sort-length (keyLess (c .before .before .before .before .before .before .args .weights .now)) _)
 
 slice-aggregate-choose : tie.Need-slice-aggregate-choose
-slice-aggregate-choose c = c .before .before .sorted .ensures .0 ∙ sym (ap length (c .before .before .sorted .ensures .1) ∙ sort-length (keyLess (c .before .before .before .before .before .before .before .args .weights .now)) _)
+slice-aggregate-choose c = c .before .before .sorted .ensures .0
+    ∙ sym (ap length (c .before .before .sorted .ensures .1) ∙ sort-length (keyLess (c .before .before .before .before .before .before .before .args .weights .now)) _)
 
 choose-requires : tie.Need-choose-requires
 choose-requires c κs = search needs
@@ -32,7 +34,8 @@ choose-requires c κs = search needs
 returns : tie.Need-returns
 returns c =
     let a = c .before .before .before .before .before .before .before .before .args in
-    c .choose .ensures ∙ ap (λ (l : List ℕ). take 31 (chooseFew (a .firsts .now) (a .seconds .now) (a .need) (a .labels) (filterB (isOn (a .flags .now)) l))) (c .before .before .before .sorted .ensures .1)
+    c .choose .ensures
+    ∙ ap (λ (l : List ℕ). take 31 (chooseFew (a .firsts .now) (a .seconds .now) (a .need) (a .labels) (filterB (isOn (a .flags .now)) l))) (c .before .before .before .sorted .ensures .1)
 
 pub lightest-spec : {M : Type 1} → statement M
 lightest-spec =

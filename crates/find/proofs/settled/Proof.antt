@@ -1,4 +1,4 @@
--- `find::settled` meets its contract.
+-- The vector of all rows is inside the limits, or it is not.
 use mathlib.Core.Path.{_∙_, ap, refl, subst, sym}
 use lib.Dec.{T}
 use borrow.Author.Needs.{needs}
@@ -33,10 +33,11 @@ tuned-requires c κs = search needs
 returns-2 : tie.Need-returns-2
 returns-2 c =
     let a = c .before .before .before .before .before .before .before .args in
+    let joined = c .before .before .before .before .joined .ensures in
     record {
       still = refl;
       tested = sym (c .before .if1 .left) ∙ c .before .before .inside .ensures
-          ∙ ap (insideOf (a .limits)) (c .before .before .before .vector .ensures ∙ ap (vectorIn (a .kinds) (a .k) (a .costs .now) (a .leads .now)) (c .before .before .before .before .joined .ensures));
+          ∙ ap (insideOf (a .limits)) (c .before .before .before .vector .ensures ∙ ap (vectorIn (a .kinds) (a .k) (a .costs .now) (a .leads .now)) joined);
       all = λ e. absurd (subst T (sym e) tt);
       choice = λ e. refl;
     }

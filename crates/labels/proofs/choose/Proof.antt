@@ -85,10 +85,13 @@ loop-again : tie.Need-loop-again Inv-loop μ-loop
 loop-again c =
     let l = c .before .before .before .before .before .before .before .before .before .before .before .before .loop in
     let (a, b) = ends (c .before .before .before) in
-    let on = ap (ltb 0) (sym (c .before .before .before .before .before .before .before .before .byte-at .ensures)) ∙ lt-ltb _ _ (c .before .before .before .before .before .before .before .if2 .taken) in (
+    let tested = c .before .before .before .before .before .before .before in
+    let left = tested .before .before .before in
+    let on = ap (ltb 0) (sym (tested .before .byte-at .ensures)) ∙ lt-ltb _ _ (tested .if2 .taken) in (
       rw (c .extended .ensures) (simp length-take (omega arith)),
       l .inv .1
-          ∙ choose-taken _ _ _ _ (l .left) (l .labels) (rowsOf (l .chosen)) (l .i) (c .before .before .before .before .before .before .before .before .before .before .before .loop-test .taken) (c .before .before .before .before .before .before .before .before .before .before .if1 .left) on (rw (sym a, sym b) (ne-eqb _ _ (c .before .before .if3 .taken)))
+          ∙ choose-taken _ _ _ _ (l .left) (l .labels) (rowsOf (l .chosen)) (l .i) (left .before .loop-test .taken) (left .if1 .left) on
+          (rw (sym a, sym b) (ne-eqb _ _ (c .before .before .if3 .taken)))
           ∙ (rw (c .extended .ensures, c .before .relabelled .ensures, a, b)),
     )
 
@@ -99,10 +102,12 @@ loop-again-2 : tie.Need-loop-again-2 Inv-loop μ-loop
 loop-again-2 c =
     let l = c .before .before .before .before .before .before .before .before .before .before .loop in
     let (a, b) = ends (c .before) in
+    let left = c .before .before .before .before .before .before .before .before in
     let on = ap (ltb 0) (sym (c .before .before .before .before .before .before .byte-at .ensures)) ∙ lt-ltb _ _ (c .before .before .before .before .before .if2 .taken) in (
       l .inv .0,
       l .inv .1
-          ∙ choose-closed _ _ _ _ (l .left) (l .labels) (rowsOf (l .chosen)) (l .i) (c .before .before .before .before .before .before .before .before .before .loop-test .taken) (c .before .before .before .before .before .before .before .before .if1 .left) on (rw (sym a, sym b) (eq-eqb _ _ (c .if3 .left))),
+          ∙ choose-closed _ _ _ _ (l .left) (l .labels) (rowsOf (l .chosen)) (l .i) (left .before .loop-test .taken) (left .if1 .left) on
+          (rw (sym a, sym b) (eq-eqb _ _ (c .if3 .left))),
     )
 
 loop-less-3 : tie.Need-loop-less-3 Inv-loop μ-loop

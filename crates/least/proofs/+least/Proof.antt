@@ -1,5 +1,5 @@
--- `least::least` meets its contract: at each turn what the rest of the search answers, the whole does (`Searching`), and the limit of component 2 falls; that of
--- component 3 falls at the call of itself.
+-- The loop's invariant: what the rest of the search answers, the whole does (`Searching`). Its measure: the limit of component 2; that of the call of itself is the
+-- limit of component 3.
 use mathlib.Core.Path.{sym}
 use mathlib.Core.Logic.{⊎-elim}
 use Prim.Native.Nat.{_<_, ℕ}
@@ -143,12 +143,13 @@ least-loop-again t c =
 least-least-requires : (t : ℕ) → least-lts.Need-least-requires (calls t) (least-at t) least.Post least-Inv-loop least-μ-loop
 least-least-requires t c κs =
     let a = c .before .before .before .before .before .before .before .before .before in
+    let found = c .before .before .before .before .before .before .before .before .if1 .left in
     let l = a .before .loop in (
       omega (
         arith,
         l .inv .third,
         a .before .before .before .before .before .before .before .pre .0,
-        falls-three _ _ _ _ _ (a .place-inside .ensures) (c .before .before .before .before .before .before .before .before .if1 .left) (l .inv .size) _ (c .before .before .before .known-at2 .ensures) _ (c .before .before .with-limit2 .ensures),
+        falls-three _ _ _ _ _ (a .place-inside .ensures) found (l .inv .size) _ (c .before .before .before .known-at2 .ensures) _ (c .before .before .with-limit2 .ensures),
       ),
       search needs,
     )
@@ -159,14 +160,16 @@ least-array-write-lows-2 t c = search needs
 least-loop-less-2 : (t : ℕ) → least-lts.Need-loop-less-2 (calls t) (least-at t) least.Post least-Inv-loop least-μ-loop
 least-loop-less-2 t c =
     let a = c .before .before .before .before .before .before .before .before .before .before in
-    falls-two _ _ _ _ _ (a .place-inside .ensures) (c .before .before .before .before .before .before .before .before .before .if1 .left) (a .before .loop .inv .size) _ (c .before .before .known-at3 .ensures)
+    let found = c .before .before .before .before .before .before .before .before .before .if1 .left in
+    falls-two _ _ _ _ _ (a .place-inside .ensures) found (a .before .loop .inv .size) _ (c .before .before .known-at3 .ensures)
 
 least-loop-again-2 : (t : ℕ) → least-lts.Need-loop-again-2 (calls t) (least-at t) least.Post least-Inv-loop least-μ-loop
 least-loop-again-2 t c =
     let f = c .before .before .before .before .before .before in
     let a = f .before .before .before .before in
     search-both _ _ _ _ _ _ _ _ _ _ _ _ _ (a .before .loop .lower) (f .if3 .lows) (f .if3 .best) _ (first t f) (a .place-inside .ensures) (f .before .before .before .if1 .left) (omega arith)
-    _ (c .before .before .before .before .known-at2 .ensures) (c .before .if5 .left) _ (c .before .before .before .with-limit2 .ensures) (c .least .result) (c .least .ensures) _ (c .before .before .known-at3 .ensures)
+    _ (c .before .before .before .before .known-at2 .ensures) (c .before .if5 .left) _ (c .before .before .before .with-limit2 .ensures)
+    (c .least .result) (c .least .ensures) _ (c .before .before .known-at3 .ensures)
 
 pub +least-spec : {M : Type 1} → statement M
 +least-spec = close μ-least λ t. least-lts.spec (calls t)

@@ -1,14 +1,12 @@
 -- Open's refusal as it came, or what the first path tells of the network that Open answers (`sizes`), over the chart of the file.
 use mathlib.Core.Path.{_∙_, _≡_, ap, sym}
-use lib.ListN.{length, length-map}
+use mathlib.Core.Bool.{false, true}
 use borrow.Author.Needs.{needs}
 use Rattle.checks.specs.Checks.{answered}
 use Rattle.fields.specs.Fields.{sizesIn}
 use Rattle.network.specs.Answers.{openedOf}
 use Rattle.network_file.specs.File.{openOf}
-use Rattle.paths.specs.Path.{keysOf}
-use Rattle.paths.proofs.Laws.{keys-length}
-use Rattle.listed.proofs.Answers.{listed-lost, listed-short, listed-some, listed-stops, refused-met}
+use Rattle.listed.proofs.Answers.{listed-none, listed-some, listed-stops, refused-met}
 use Rattle.listed.proofs.listed.Statement.{statement}
 use Rattle.listed.proofs.listed.Tie as tie
 
@@ -30,66 +28,40 @@ returns c =
 of-file-requires : tie.Need-of-file-requires
 of-file-requires c κs = search needs
 
-first-path-requires : tie.Need-first-path-requires
-first-path-requires c κs = search needs
-
-width-requires : tie.Need-width-requires
-width-requires c κs = search needs
-
-length-requires : tie.Need-length-requires
-length-requires c κs = search needs
+first-requires : tie.Need-first-requires
+first-requires c κs = search needs
 
 -- the header is Open's answer
 sizes : (c : tie.After-enum-told) → openOf (c .before .before .before .before .args .file .now) ≡ answered (sizesIn (c .enum-told .given .0 .0))
 sizes c = sym (c .before .before .«open» .ensures) ∙ ap openedOf (c .enum-told .given .1)
 
--- where the path's steps are counted: the path is grown, the file charted, and the header is Open's
-abbrev grown : tie.After-length → tie.After-first-path
-grown c = c .before .before .before
+-- where the first path is known: the file is charted, and the header is Open's
+abbrev charted : tie.After-first → tie.After-of-file
+charted c = c .before .before
 
-abbrev charted : tie.After-length → tie.After-of-file
-charted c = grown c .before .before
-
-abbrev header : tie.After-length → tie.After-enum-told
+abbrev header : tie.After-first → tie.After-enum-told
 header c = charted c .before .before
 
--- the path has as many steps as it says
-steps : (c : tie.After-length) → c .length .result ≡ length (keysOf (grown c .first-path .result))
-steps c =
-    let path = grown c .first-path in
-    c .length .ensures
-    ∙ sym (keys-length (path .result) (simp length-map at (path .ok .1 .1 .1 .0 .1 .0 .1)) (simp length-map at (path .ok .1 .1 .0 .1 .0 .1)) (simp length-map at (path .ok .1 .1 .1 .1 .0 .1 .0 .1)))
+-- the two ways: there is a first path, or there is none
+found : (c : tie.Then1) → c .before .first .result .some ≡ true
+found c = c .if1 .taken
+
+missing : (c : tie.Else1) → c .before .first .result .some ≡ false
+missing c = c .if1 .left
 
 returns-2 : tie.Need-returns-2
 returns-2 c =
     let at = c .before in
     let made = charted at .of-file .ensures in (
-      λ empty. listed-short _ _ (sizes (header at)) _ _ _ made (grown at .first-path .ensures .1) empty
-          (λ e. c .if1 .taken (steps at ∙ e ∙ sym (at .before .width .ensures))),
+      λ empty. ap openedOf (header at .enum-told .given .1) ∙ listed-some _ _ (sizes (header at)) _ _ _ made (at .first .ensures .1) empty (found c),
       λ met. made,
     )
-
-musts-on-requires : tie.Need-musts-on-requires
-musts-on-requires c κs = search needs
 
 returns-3 : tie.Need-returns-3
 returns-3 c =
-    let full = c .before .before .before in
-    let at = full .before in
-    let made = charted at .of-file .ensures in
-    let long = sym (steps at) ∙ full .if1 .left ∙ at .before .width .ensures in (
-      λ empty. ap openedOf (header at .enum-told .given .1)
-          ∙ listed-some _ _ (sizes (header at)) _ _ _ made (grown at .first-path .ensures .1) empty long (sym (c .before .musts-on .ensures) ∙ c .if2 .taken),
-      λ met. made,
-    )
-
-returns-4 : tie.Need-returns-4
-returns-4 c =
-    let full = c .before .before .before in
-    let at = full .before in
-    let made = charted at .of-file .ensures in
-    let long = sym (steps at) ∙ full .if1 .left ∙ at .before .width .ensures in (
-      λ empty. listed-lost _ _ (sizes (header at)) _ _ _ made (grown at .first-path .ensures .1) empty long (sym (c .before .musts-on .ensures) ∙ c .if2 .left),
+    let at = c .before in
+    let made = charted at .of-file .ensures in (
+      λ empty. listed-none _ _ (sizes (header at)) _ _ _ made (at .first .ensures .1) empty (missing c),
       λ met. made,
     )
 
@@ -102,10 +74,6 @@ listed-spec =
     enum-told-2
     returns
     of-file-requires
-    first-path-requires
-    width-requires
-    length-requires
+    first-requires
     returns-2
-    musts-on-requires
-    returns-3
-    returns-4)
+    returns-3)

@@ -23,7 +23,8 @@ slice-aggregate-tree : tie.Need-slice-aggregate-tree
 slice-aggregate-tree c = simp length-take (omega (arith, thirty-one (c .before .before .before .before .before .before), c .before .length .ensures))
 
 -- and its first places are the tree
-tree-is : (c : tie.After-rows2) → take (c .before .length .result) (c .before .before .before .before .before .before .args .path .rows) ≡ rowsIn (c .before .before .before .before .before .before .args .path)
+tree-is : (c : tie.After-rows2)
+    → take (c .before .length .result) (c .before .before .before .before .before .before .args .path .rows) ≡ rowsIn (c .before .before .before .before .before .before .args .path)
 tree-is c =
     let start = c .before .before .before .before .before .before in
     let nodes = simp length-map at (start .good .1 .1 .1 .1 .1 .1 .0 .1 .1 .1 .0 .1 .0 .1) in

@@ -74,7 +74,8 @@ returns-3 c =
     let noted = c .before .before .before .before in
     let at = noted .before .before .before .before in
     noted .note .ensures
-    ∙ office-noted _ _ _ (asked at .before .before .drawn .ensures) _ _ _ _ (asked at .before .if1 .left) (asked at .header-of .ensures) (at .vector .ensures) (sym (at .before .before .fit .ensures) ∙ fits at)
+    ∙ office-noted _ _ _ (asked at .before .before .drawn .ensures) _ _ _ _ (asked at .before .if1 .left) (asked at .header-of .ensures)
+    (at .vector .ensures) (sym (at .before .before .fit .ensures) ∙ fits at)
 
 pub office-spec : {M : Type 1} → statement M
 office-spec =

@@ -1,4 +1,4 @@
--- `scratch::is_below` meets its contract.
+-- With a bound the vector is compared with it, and without one it is below.
 use native.Mathlib.Nat.{add-sub-cancel-left}
 use borrow.Author.Needs.{needs}
 use Rattle.scratch.proofs.is_below.Statement.{statement}

@@ -1,4 +1,4 @@
--- `scratch::offer` meets its contract.
+-- Each way out is one case of an offer (`offer-met`, `offer-entered`, `offer-beyond` and those before them).
 use mathlib.Core.Path.{_∙_, sym}
 use borrow.Author.Needs.{needs}
 use Rattle.scratch.proofs.Offers.{next-row-ends, offer-beyond, offer-entered, offer-met, offer-nothing, offer-short, offer-unknown}
@@ -30,7 +30,9 @@ same-length : tie.Need-same-length
 same-length c = search needs
 
 returns-4 : tie.Need-returns-4
-returns-4 c = offer-met _ _ _ _ _ _ _ _ (c .before .before .before .before .before .before .before .if1 .left) (c .before .before .before .before .before .before .if2 .left) (c .before .before .before .before .before .if3 .left) (sym (c .before .before .before .is-below .ensures) ∙ c .before .before .if4 .taken) (sym (c .before .meets .ensures) ∙ c .if5 .taken)
+returns-4 c = offer-met _ _ _ _ _ _ _ _ (c .before .before .before .before .before .before .before .if1 .left) (c .before .before .before .before .before .before .if2 .left)
+    (c .before .before .before .before .before .if3 .left)
+    (sym (c .before .before .before .is-below .ensures) ∙ c .before .before .if4 .taken) (sym (c .before .meets .ensures) ∙ c .if5 .taken)
 
 enter-requires : tie.Need-enter-requires
 enter-requires c κs = search needs
@@ -46,15 +48,19 @@ same-length-3 c = search needs
 
 returns-5 : tie.Need-returns-5
 returns-5 c =
+    let unmet = c .before .before .before .before .before .before .before .before in
+    let below = unmet .before .before in
     rw (c .settle .ensures)
-    (offer-entered _ _ _ _ _ _ _ _ (c .before .before .before .before .before .before .before .before .before .before .before .before .before .before .before .if1 .left) (c .before .before .before .before .before .before .before .before .before .before .before .before .before .before .if2 .left) (c .before .before .before .before .before .before .before .before .before .before .before .before .before .if3 .left) (sym (c .before .before .before .before .before .before .before .before .before .before .before .is-below .ensures) ∙ c .before .before .before .before .before .before .before .before .before .before .if4 .taken)
-    (sym (c .before .before .before .before .before .before .before .before .before .meets .ensures) ∙ c .before .before .before .before .before .before .before .before .if5 .left) _ (c .before .before .before .before .before .enter .ensures))
+    (offer-entered _ _ _ _ _ _ _ _ (below .before .before .before .before .before .if1 .left) (below .before .before .before .before .if2 .left)
+    (below .before .before .before .if3 .left) (sym (below .before .is-below .ensures) ∙ below .if4 .taken)
+    (sym (unmet .before .meets .ensures) ∙ unmet .if5 .left) _ (c .before .before .before .before .before .enter .ensures))
 
 same-length-4 : tie.Need-same-length-4
 same-length-4 c = search needs
 
 returns-6 : tie.Need-returns-6
-returns-6 c = offer-beyond _ _ _ _ _ _ _ _ (c .before .before .before .before .before .if1 .left) (c .before .before .before .before .if2 .left) (c .before .before .before .if3 .left) (sym (c .before .is-below .ensures) ∙ c .if4 .left)
+returns-6 c = offer-beyond _ _ _ _ _ _ _ _ (c .before .before .before .before .before .if1 .left) (c .before .before .before .before .if2 .left) (c .before .before .before .if3 .left)
+    (sym (c .before .is-below .ensures) ∙ c .if4 .left)
 
 pub offer-spec : {M : Type 1} → statement M
 offer-spec =

@@ -1,4 +1,4 @@
--- `scratch::settle` meets its contract.
+-- Arm by arm what entering came to; of the rows one too many is dropped, or all stay.
 use borrow.Author.Needs.{needs}
 use borrow.Author.Tests.{le-ltb, lt-ltb}
 use Rattle.scratch.proofs.settle.Statement.{statement}

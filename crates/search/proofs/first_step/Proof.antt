@@ -15,7 +15,8 @@ use Rattle.search.proofs.first_step.Tie as tie
 
 abbrev Inv-rows : tie.InvT-rows
 Inv-rows chart must fresh entered place node limit rows found₀ i j pivot «open» r₀ found r =
-    (firstStepOf (nearIn must chart) (headIn chart) (firstsIn must chart) (secondsIn must chart) limit fresh entered place node ≡ fromRow (nearIn must chart) (headIn chart) (firstsIn must chart) (secondsIn must chart) limit fresh entered i pivot j r)
+    (firstStepOf (nearIn must chart) (headIn chart) (firstsIn must chart) (secondsIn must chart) limit fresh entered place node
+    ≡ fromRow (nearIn must chart) (headIn chart) (firstsIn must chart) (secondsIn must chart) limit fresh entered i pivot j r)
     × (found ≡ Nothing) × (limit ≡ limitIn chart) × (rows ≡ length (firstsIn must chart))
 
 abbrev μ-rows : tie.MeasureT-rows
@@ -23,7 +24,8 @@ abbrev μ-rows : tie.MeasureT-rows
 
 abbrev Inv-nodes : tie.InvT-nodes
 Inv-nodes chart must fresh entered place node limit rows found₀ i j₀ pivot «open» found j =
-    (firstStepOf (nearIn must chart) (headIn chart) (firstsIn must chart) (secondsIn must chart) limit fresh entered place node ≡ fromNode (nearIn must chart) (headIn chart) (firstsIn must chart) (secondsIn must chart) limit fresh entered i pivot j)
+    (firstStepOf (nearIn must chart) (headIn chart) (firstsIn must chart) (secondsIn must chart) limit fresh entered place node
+    ≡ fromNode (nearIn must chart) (headIn chart) (firstsIn must chart) (secondsIn must chart) limit fresh entered i pivot j)
     × (found ≡ Nothing) × (limit ≡ limitIn chart) × (rows ≡ length (firstsIn must chart))
 
 abbrev μ-nodes : tie.MeasureT-nodes
@@ -31,7 +33,8 @@ abbrev μ-nodes : tie.MeasureT-nodes
 
 abbrev Inv-places : tie.InvT-places
 Inv-places chart must fresh entered place node limit rows found₀ i₀ j₀ found i j =
-    (firstStepOf (nearIn must chart) (headIn chart) (firstsIn must chart) (secondsIn must chart) limit fresh entered place node ≡ firstStepOf (nearIn must chart) (headIn chart) (firstsIn must chart) (secondsIn must chart) limit fresh entered i j)
+    (firstStepOf (nearIn must chart) (headIn chart) (firstsIn must chart) (secondsIn must chart) limit fresh entered place node
+    ≡ firstStepOf (nearIn must chart) (headIn chart) (firstsIn must chart) (secondsIn must chart) limit fresh entered i j)
     × (found ≡ Nothing) × (limit ≡ limitIn chart) × (rows ≡ length (firstsIn must chart))
 
 abbrev μ-places : tie.MeasureT-places

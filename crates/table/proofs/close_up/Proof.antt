@@ -1,4 +1,4 @@
--- `table::close_up` meets its contract: at each turn the rows that stay of the first i stand in the first places; there remain count - i.
+-- The loop's invariant: the rows that stay of the first i stand in the first places. Its measure: the rows to come.
 use mathlib.Core.Path.{_∙_, _≡_, sym}
 use Prim.Native.Nat.{_-_}
 use native.Mathlib.Omega.{arith}

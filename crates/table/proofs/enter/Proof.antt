@@ -1,4 +1,4 @@
--- `table::enter` meets its contract.
+-- Check by check; then the vector is met, the tables are full, or the rows that it dominates are closed up and it is inserted.
 use mathlib.Core.Path.{_∙_, _≡_, sym}
 use mathlib.Core.Bool.{false}
 use native.Mathlib.Omega.{arith}
@@ -123,7 +123,8 @@ returns-6 c =
     let some = c .before .before .before .before .before .before .before .before .before .before in
     let closed = some .before .before .before .before .before in
     let found = closed .before .before .before .before .before .before in
-    rw (c .before .before .before .before .before .before .insert-costs .ensures, c .before .before .insert-rows .ensures, c .before .before .before .before .before .before .before .before .place-of .ensures)
+    let placed = c .before .before .before .before .before .before .before .before .place-of .ensures in
+    rw (c .before .before .before .before .before .before .insert-costs .ensures, c .before .before .insert-rows .ensures, placed)
     (enter-rows (fit found) (closed .close-up .ensures) (unmet (closed .before .before .before)) (rw (room-is (found .before)) at (some .if5 .left)))
 
 pub enter-spec : {M : Type 1} → statement M

@@ -1,4 +1,4 @@
--- `table::place_of` meets its contract: at each turn the answer is that of the rows from row i on; there remain count - i.
+-- The loop's invariant: the place is i and how many of the rows from row i on stand before the vector. Its measure: the rows to come.
 use mathlib.Core.Path.{_∙_, _≡_, ap, sym}
 use Prim.Native.Nat.{_*_, _+_, _-_, _≤_}
 use native.Mathlib.Nat.{zero-add}

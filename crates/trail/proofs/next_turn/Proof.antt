@@ -1,18 +1,20 @@
 -- The loop's invariant: the next path is that of the walk back from step i on, for any path that the arrays hold. The measure is i.
 use mathlib.Core.Path.{_∙_, _≡_, refl, sym}
+use mathlib.Core.Bool.{true}
 use mathlib.Core.List.{List}
 use Prim.Native.Nat.{_-_, _≤_, suc, ℕ}
 use native.Mathlib.Omega.{arith}
 use borrow.Author.Tests.{not-false, not-true}
-use lib.ListN.{length, length-take}
+use lib.ListN.{getD, length, length-take}
 use denote.Ref.{now}
 use Rattle.graph.specs.Paths.{Key}
 use Rattle.graph.proofs.Growth.{rowsOf, start}
 use Rattle.states.proofs.Full.{Full}
 use Rattle.chart.proofs.Charts.{Charts}
-use Rattle.chart.specs.Chart.{graphIn, mustsIn, plantIn}
+use Rattle.chart.specs.Chart.{firstsIn, graphIn, mustsIn, plantIn}
+use Rattle.states.specs.States.{mustRow}
 use Rattle.trail.specs.Trail.{Holds}
-use Rattle.trail.proofs.Back.{BoundWays, LeftAt, Walked, bound-ways, kept-must, left-over, left-start, place-less, rows-long, turn-row}
+use Rattle.trail.proofs.Back.{BoundWays, LeftAt, Walked, bound-ways, kept-must, leads, left-over, left-start, place-less, rows-long, turn-row}
 use borrow.Author.Needs.{needs}
 use Rattle.trail.proofs.next_turn.Statement.{statement}
 use Rattle.trail.proofs.next_turn.Tie as tie
@@ -22,10 +24,10 @@ walked : {c entered pivots sets rows : List ℕ} {keys : List Key} → Charts c 
 walked right full holds rows-are = record { right = right; full = full; holds = holds; rows-are = rows-are }
 
 abbrev Inv-loop : tie.InvT-loop
-Inv-loop chart entered pivots sets rows none nodes i₀ i = (i ≤ length rows) × ((keys : List Key) → Walked chart entered pivots sets rows keys → LeftAt chart keys i)
+Inv-loop chart entered pivots sets rows none nodes claimed i₀ i = (i ≤ length rows) × ((keys : List Key) → Walked chart entered pivots sets rows keys → LeftAt chart keys i)
 
 abbrev μ-loop : tie.MeasureT-loop
-μ-loop chart entered pivots sets rows none nodes i₀ i = i
+μ-loop chart entered pivots sets rows none nodes claimed i₀ i = i
 
 nodes-requires : tie.Need-nodes-requires Inv-loop μ-loop
 nodes-requires c κs = search needs
@@ -52,8 +54,11 @@ shared-slice-read-row c = search needs
 cast-row : tie.Need-cast-row Inv-loop μ-loop
 cast-row c = omega (arith, c .shared-slice-known3 .given (c .before .before .loop .i - 1))
 
-is-must-requires : tie.Need-is-must-requires Inv-loop μ-loop
-is-must-requires c κs = search needs
+near-requires : tie.Need-near-requires Inv-loop μ-loop
+near-requires c κs = search needs
+
+is-kept-requires : tie.Need-is-kept-requires Inv-loop μ-loop
+is-kept-requires c κs = search needs
 
 shared-slice-read-node : tie.Need-shared-slice-read-node Inv-loop μ-loop
 shared-slice-read-node c = search needs
@@ -64,6 +69,13 @@ element-copy-out-place c = search needs
 next-row-requires : tie.Need-next-row-requires Inv-loop μ-loop
 next-row-requires c κs = search needs
 
+-- whether the row is a must row is told, of a tree's row
+kept : (c : tie.After-is-kept Inv-loop μ-loop) →
+    let a = c .before .before .before .before .before .before .before .before .before .before .args in
+    (keys : List Key) → Walked (now (a .chart)) (now (a .entered)) (now (a .pivots)) (now (a .sets)) (now (a .rows)) keys
+    → c .is-kept .result ≡ mustRow (firstsIn true (now (a .chart))) (getD (now (a .rows)) (c .before .before .before .loop .i - 1) 0)
+kept c keys w = c .is-kept .ensures (leads w) (c .before .before .before .before .before .before .near .ensures)
+
 returns-3 : tie.Need-returns-3 Inv-loop μ-loop
 returns-3 c keys right full holds rows-are =
     let read = c .before in
@@ -72,7 +84,7 @@ returns-3 c keys right full holds rows-are =
     let n = test .before .loop .i in
     let w = walked right full holds rows-are in
     turn-row w n (n - 1) (omega (arith, test .loop-test .taken)) (test .before .loop .inv .0) (test .before .loop .inv .1 keys w)
-    (sym (free .before .is-must .ensures) ∙ not-true _ (free .if3 .taken)) (read .next-row .ensures) (c .if4 .taken)
+    (sym (kept (free .before) keys w) ∙ not-true _ (free .if3 .taken)) (read .next-row .ensures) (c .if4 .taken)
 
 mul-set : tie.Need-mul-set Inv-loop μ-loop
 mul-set c = search needs
@@ -98,7 +110,7 @@ open-past-requires c κs = search needs
 -- what is found of the sets decides
 asked : (c : tie.After-open-past Inv-loop μ-loop) →
     let test = c .before .before .before .before .before .before .before .before .before .before .before .before .before in
-    let a = test .before .before .before .before .before .before .before .args in
+    let a = test .before .before .before .before .before .before .before .before .args in
     (keys : List Key) → Walked (now (a .chart)) (now (a .entered)) (now (a .pivots)) (now (a .sets)) (now (a .rows)) keys
     → BoundWays (now (a .chart)) (now (a .entered)) (now (a .pivots)) keys (test .before .loop .i) (test .before .loop .i - 1) (c .open-past .result)
 asked c keys w =
@@ -111,8 +123,8 @@ asked c keys w =
     let one : n ≡ suc (n - 1) = omega (arith, test .loop-test .taken) in
     let within = test .before .loop .inv .0 in
     let left = test .before .loop .inv .1 keys w in
-    bound-ways w n (n - 1) one within left (sym (free .before .is-must .ensures) ∙ not-true _ (free .if3 .taken)) (read .next-row .ensures) (sets .before .before .if4 .left) refl
-    (sets .set-at .ensures (place-less w n (n - 1) one within left)) (test .before .before .before .before .nodes .ensures) (c .before .before .minus2 .ensures) (later .minus .ensures)
+    bound-ways w n (n - 1) one within left (sym (kept (free .before) keys w) ∙ not-true _ (free .if3 .taken)) (read .next-row .ensures) (sets .before .before .if4 .left) refl
+    (sets .set-at .ensures (place-less w n (n - 1) one within left)) (test .before .before .before .before .before .nodes .ensures) (c .before .before .minus2 .ensures) (later .minus .ensures)
     (c .open-past .ensures)
 
 returns-4 : tie.Need-returns-4 Inv-loop μ-loop
@@ -133,7 +145,7 @@ loop-again-2 c =
     let test = must .before .before in
     let n = test .before .loop .i in
     let inv = test .before .loop .inv in
-    (omega arith, λ keys w. kept-must w n (n - 1) (omega (arith, test .loop-test .taken)) (inv .0) (inv .1 keys w) (sym (must .is-must .ensures) ∙ not-false _ (c .if3 .left)))
+    (omega arith, λ keys w. kept-must w n (n - 1) (omega (arith, test .loop-test .taken)) (inv .0) (inv .1 keys w) (sym (kept must keys w) ∙ not-false _ (c .if3 .left)))
 
 returns-5 : tie.Need-returns-5 Inv-loop μ-loop
 returns-5 c keys right full holds rows-are =
@@ -146,6 +158,7 @@ next-turn-spec =
     Inv-loop
     μ-loop
     nodes-requires
+    near-requires
     returns
     returns-2
     loop-holds
@@ -153,7 +166,7 @@ next-turn-spec =
     mul-row
     shared-slice-read-row
     cast-row
-    is-must-requires
+    is-kept-requires
     shared-slice-read-node
     element-copy-out-place
     next-row-requires

@@ -41,7 +41,8 @@ loop-holds c =
     let shortened = c .before .before .before in
     let ok = shortened .shortened .ok in
     let prefix = shortened .shortened .ensures in
-    let long = keys-length (shortened .shortened .result) (simp length-map at (ok .1 .1 .1 .0 .1 .0 .1)) (simp length-map at (ok .1 .1 .0 .1 .0 .1)) (simp length-map at (ok .1 .1 .1 .1 .0 .1 .0 .1)) in
+    let long = keys-length (shortened .shortened .result)
+    (simp length-map at (ok .1 .1 .1 .0 .1 .0 .1)) (simp length-map at (ok .1 .1 .0 .1 .0 .1)) (simp length-map at (ok .1 .1 .1 .1 .0 .1 .0 .1)) in
     rw (c .fresh-after .ensures, c .before .nodes .ensures, prefix .0, prefix .1)
     (after-start _ _ _ _ _ (c .before .before .length .ensures ∙ sym long ∙ ap length (prefix .1) ∙ (simp length-take)))
 

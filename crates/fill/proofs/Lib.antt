@@ -1,0 +1,3 @@
+pub mod Filling
+pub mod Steps
+pub mod Turns
