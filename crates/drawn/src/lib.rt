@@ -25,6 +25,6 @@ pub fn drawn(file: &[u8], rows: &[u16]) -> DrawnAnswer
         return tried::refused(number_of(opened));
     };
     let mut chart = [0u64; chart::LENGTH];
-    chart::of_file(file, &mut chart);
+    charting::of_file(file, &mut chart);
     tried::tried(&chart, rows)
 }

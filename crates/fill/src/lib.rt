@@ -56,7 +56,7 @@ pub fn fill_from(chart: &[u64; chart::LENGTH], page: &mut [u16], next: Next) -> 
     let mut rows = tree.rows;
     let mut sets = [0u64; 32];
     let n = width + 1;
-    trail::gather(&entered[..n], &mut sets);
+    regrow::gather(&entered[..n], &mut sets);
     let mut some = next.some;
     let mut at: usize = 0;
     let mut count: usize = 0;
@@ -76,7 +76,7 @@ pub fn fill_from(chart: &[u64; chart::LENGTH], page: &mut [u16], next: Next) -> 
         let turn = trail::next_turn(chart, &entered, &pivots, &sets, last);
         some = turn.some;
         if turn.some {
-            trail::take_turn(
+            regrow::take_turn(
                 chart,
                 &mut entered,
                 &mut pivots,

@@ -45,7 +45,7 @@ fn has_few_trees(file: &[u8]) -> bool {
     let header = fields::header_of(file);
     let most = most_walked(header.k);
     let mut chart = [0u64; chart::LENGTH];
-    chart::of_file(file, &mut chart);
+    charting::of_file(file, &mut chart);
     let n = chart::limit(&chart);
     let mut product: u64 = 1;
     let mut v: u8 = 1;

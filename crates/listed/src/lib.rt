@@ -18,7 +18,7 @@ pub fn listed(file: &[u8], chart: &mut [u64; chart::LENGTH]) -> Opened
     let Opened::Header(_) = opened else {
         return opened;
     };
-    chart::of_file(file, chart);
+    charting::of_file(file, chart);
     let first = walk::first(chart);
     let some = first.some;
     if some { opened } else { Opened::Refused(12) }

@@ -110,7 +110,7 @@ pub fn page(file: &[u8], page: &mut [u16], start: &[u16]) -> PageAnswer
         return refused(opened);
     };
     let mut chart = [0u64; chart::LENGTH];
-    chart::of_file(file, &mut chart);
+    charting::of_file(file, &mut chart);
     let begun = begin(&chart, start);
     if !begun.tree {
         return PageAnswer::Refused(12);

@@ -42,7 +42,7 @@ pub fn reach(file: &[u8]) -> ReachAnswer
         return refused(opened);
     };
     let mut chart = [0u64; chart::LENGTH];
-    chart::of_file(file, &mut chart);
+    charting::of_file(file, &mut chart);
     let reached = reached_word(&chart);
     let word = (reached / 2 % 4294967296) as u32;
     ReachAnswer::Set {

@@ -1,4 +1,3 @@
 pub mod Sets
-pub mod Growing
 pub mod Turns
 pub mod Back

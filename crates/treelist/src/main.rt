@@ -280,7 +280,7 @@ fn print_trees(out: &mut [u8], at: usize, file: &[u8], h: Header) -> u64
     ensures { λ r. ⌜ r ≡ min (length (layoutsIn (now (file .entry)))) (2 ^ 64 - 1) ⌝ }
 {
     let mut chart = [0u64; chart::LENGTH];
-    chart::of_file(file, &mut chart);
+    charting::of_file(file, &mut chart);
     let mut trees = page_space();
     let page: &mut [u16] = &mut trees;
     let places = 64 * (h.n as usize - 1);

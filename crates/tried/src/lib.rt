@@ -89,7 +89,7 @@ fn only_drawn(chart: &[u64; chart::LENGTH], drawn: [bool; 256], out: &mut [u64; 
     ensures { λ _. ⌜ now (out .exit) ≡ onlyOn (now (chart .entry)) drawn (now (out .entry)) ⌝ }
 {
     let count = chart::row_count(chart);
-    chart::begin(
+    charting::begin(
         out,
         chart::limit(chart),
         chart::plant(chart),
@@ -101,7 +101,7 @@ fn only_drawn(chart: &[u64; chart::LENGTH], drawn: [bool; 256], out: &mut [u64; 
     while 0 < r {
         r -= 1;
         let row = only_row(chart, r, drawn[r]);
-        chart::enter(out, r, row);
+        charting::enter(out, r, row);
     }
 }
 

@@ -3,11 +3,11 @@ use mathlib.Core.Path.{_∙_, ap, sym}
 use Prim.Native.Nat.{_<_}
 use native.Mathlib.Omega.{arith}
 use lib.ListN.{length, length-set, set}
 use Rattle.trail.proofs.Sets.{holds-part}
-use Rattle.trail.proofs.Growing.{beside-long, holds-beside, part-long, rows-beside, rows-part, turned-beside, turned-longer, turned-plain}
+use Rattle.regrow.proofs.Growing.{beside-long, holds-beside, part-long, rows-beside, rows-part, turned-beside, turned-longer, turned-plain}
 use borrow.Author.Needs.{needs}
-use Rattle.trail.proofs.take_turn.Statement.{statement}
-use Rattle.trail.proofs.take_turn.Tie as tie
+use Rattle.regrow.proofs.take_turn.Statement.{statement}
+use Rattle.regrow.proofs.take_turn.Tie as tie
 
 regrow-requires : tie.Need-regrow-requires
 regrow-requires c κs = search needs

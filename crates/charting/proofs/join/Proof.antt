@@ -1,9 +1,9 @@
 use borrow.Author.Needs.{needs}
 use Rattle.chart.specs.Chart.{joinedBy}
-use Rattle.chart.proofs.join.Statement.{statement}
-use Rattle.chart.proofs.join.Tie as tie
-use Rattle.chart.proofs.join.Reads as reads
-use Rattle.chart.proofs.join.Lts as lts
+use Rattle.charting.proofs.join.Statement.{statement}
+use Rattle.charting.proofs.join.Tie as tie
+use Rattle.charting.proofs.join.Reads as reads
+use Rattle.charting.proofs.join.Lts as lts
 use Rattle.words.proofs.bit.Reads as bit-reads
 
 add-i : tie.Need-add-i

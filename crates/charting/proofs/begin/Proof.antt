@@ -1,9 +1,9 @@
 use borrow.Author.Needs.{needs}
 use Rattle.chart.specs.Chart.{begunBy}
-use Rattle.chart.proofs.begin.Statement.{statement}
-use Rattle.chart.proofs.begin.Tie as tie
-use Rattle.chart.proofs.begin.Reads as reads
-use Rattle.chart.proofs.begin.Lts as lts
+use Rattle.charting.proofs.begin.Statement.{statement}
+use Rattle.charting.proofs.begin.Tie as tie
+use Rattle.charting.proofs.begin.Reads as reads
+use Rattle.charting.proofs.begin.Lts as lts
 
 element-write-chart : tie.Need-element-write-chart
 element-write-chart c = search needs

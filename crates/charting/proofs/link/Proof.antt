@@ -1,11 +1,11 @@
 use borrow.Author.Needs.{needs}
 use Rattle.chart.specs.Chart.{linkedBy}
-use Rattle.chart.proofs.link.Statement.{statement}
-use Rattle.chart.proofs.link.Tie as tie
-use Rattle.chart.proofs.link.Reads as reads
-use Rattle.chart.proofs.link.Lts as lts
-use Rattle.chart.proofs.join.Reads as join-reads
-use Rattle.chart.proofs.row_word.Reads as row-word-reads
+use Rattle.charting.proofs.link.Statement.{statement}
+use Rattle.charting.proofs.link.Tie as tie
+use Rattle.charting.proofs.link.Reads as reads
+use Rattle.charting.proofs.link.Lts as lts
+use Rattle.charting.proofs.join.Reads as join-reads
+use Rattle.charting.proofs.row_word.Reads as row-word-reads
 
 mul-there : tie.Need-mul-there
 mul-there c = search needs

@@ -3,10 +3,10 @@ use mathlib.Core.Path.{_∙_, _≡_, refl, sym}
 use native.Mathlib.Omega.{arith}
 use borrow.Author.Needs.{needs}
 use Rattle.network_file.specs.File.{networkOf}
 use Rattle.chart.specs.Chart.{enteredDown}
 use Rattle.chart.proofs.Files.{file-turn}
-use Rattle.chart.proofs.enter_cut.Statement.{statement}
-use Rattle.chart.proofs.enter_cut.Tie as tie
+use Rattle.charting.proofs.enter_cut.Statement.{statement}
+use Rattle.charting.proofs.enter_cut.Tie as tie
 
 abbrev Inv-loop : tie.InvT-loop
 Inv-loop file chart₀ count r₀ chart r = enteredDown (networkOf file .rows) r₀ chart₀ ≡ enteredDown (networkOf file .rows) r chart

@@ -1,8 +1,8 @@
 use borrow.Author.Needs.{needs}
 use borrow.Author.Tests.{eq-eqb, le-ltb, lt-ltb, ne-eqb}
 use Rattle.chart.specs.Chart.{enteredBy}
-use Rattle.chart.proofs.enter_by.Statement.{statement}
-use Rattle.chart.proofs.enter_by.Tie as tie
+use Rattle.charting.proofs.enter_by.Statement.{statement}
+use Rattle.charting.proofs.enter_by.Tie as tie
 
 returns : tie.Need-returns
 unfolding enteredBy

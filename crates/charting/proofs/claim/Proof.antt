@@ -1,10 +1,10 @@
 use borrow.Author.Needs.{needs}
 use Rattle.chart.specs.Chart.{claimedBy}
-use Rattle.chart.proofs.claim.Statement.{statement}
-use Rattle.chart.proofs.claim.Tie as tie
-use Rattle.chart.proofs.claim.Reads as reads
-use Rattle.chart.proofs.claim.Lts as lts
-use Rattle.chart.proofs.join.Reads as join-reads
+use Rattle.charting.proofs.claim.Statement.{statement}
+use Rattle.charting.proofs.claim.Tie as tie
+use Rattle.charting.proofs.claim.Reads as reads
+use Rattle.charting.proofs.claim.Lts as lts
+use Rattle.charting.proofs.join.Reads as join-reads
 
 join-requires : tie.Need-join-requires
 join-requires c κs = search needs

@@ -3,11 +3,11 @@ use mathlib.Core.Path.{_≡_}
 use Prim.Native.Nat.{_-_, _<_, _≤_}
 use native.Mathlib.Omega.{arith}
 use lib.ListN.{length}
-use Rattle.trail.proofs.Growing.{Gathered, gathered-next, gathered-over, gathered-start}
+use Rattle.regrow.proofs.Growing.{Gathered, gathered-next, gathered-over, gathered-start}
 use borrow.Author.Tests.{ltb-false, ltb-true}
 use borrow.Author.Needs.{needs}
-use Rattle.trail.proofs.gather.Statement.{statement}
-use Rattle.trail.proofs.gather.Tie as tie
+use Rattle.regrow.proofs.gather.Statement.{statement}
+use Rattle.regrow.proofs.gather.Tie as tie
 
 abbrev Inv-loop : tie.InvT-loop
 Inv-loop entered sets₀ set₀ i₀ sets word i = (length sets₀ ≡ 32 → Gathered entered sets word i) × (i ≤ length entered)

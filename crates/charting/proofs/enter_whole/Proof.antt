@@ -7,10 +7,10 @@ use lib.Dec.{eqb}
 use borrow.Author.Needs.{needs}
 use Rattle.lists.specs.Lists.{pick}
 use Rattle.network_file.specs.File.{byteAt, networkOf, version}
 use Rattle.chart.specs.Chart.{HasRows, enteredDown}
 use Rattle.chart.proofs.Files.{has-bytes, has-less, has-stated, has-turn}
-use Rattle.chart.proofs.enter_whole.Statement.{statement}
-use Rattle.chart.proofs.enter_whole.Tie as tie
+use Rattle.charting.proofs.enter_whole.Statement.{statement}
+use Rattle.charting.proofs.enter_whole.Tie as tie
 
 abbrev Inv-loop : tie.InvT-loop
 Inv-loop file chart₀ count end two step r₀ at₀ chart r at = (enteredDown (networkOf file .rows) r₀ chart₀ ≡ enteredDown (networkOf file .rows) r chart) × HasRows file r at

@@ -1,9 +1,9 @@
 use mathlib.Core.Path.{_∙_}
 use borrow.Author.Needs.{needs}
 use borrow.Author.Tests.{lt-ltb}
 use Rattle.chart.specs.Chart.{enteredBy}
-use Rattle.chart.proofs.enter.Statement.{statement}
-use Rattle.chart.proofs.enter.Tie as tie
+use Rattle.charting.proofs.enter.Statement.{statement}
+use Rattle.charting.proofs.enter.Tie as tie
 
 returns : tie.Need-returns
 unfolding enteredBy

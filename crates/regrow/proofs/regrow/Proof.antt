@@ -8,12 +8,12 @@ use Rattle.graph.specs.Paths.{Key}
 use Rattle.graph.proofs.Growth.{rowsOf}
 use Rattle.chart.specs.Chart.{plantIn}
 use Rattle.search.specs.Search.{foundOf}
 use Rattle.trail.specs.Trail.{Holds, grownOn}
-use Rattle.trail.proofs.Growing.{Left, left-full, left-next, left-none, left-over, left-room, left-start}
+use Rattle.regrow.proofs.Growing.{Left, left-full, left-next, left-none, left-over, left-room, left-start}
 use borrow.Author.Tests.{ltb-false, ltb-true}
 use borrow.Author.Needs.{needs}
-use Rattle.trail.proofs.regrow.Statement.{statement}
-use Rattle.trail.proofs.regrow.Tie as tie
+use Rattle.regrow.proofs.regrow.Statement.{statement}
+use Rattle.regrow.proofs.regrow.Tie as tie
 
 abbrev Inv-loop : tie.InvT-loop
 Inv-loop chart entered₀ pivots₀ sets₀ rows₀ nodes s₀ i₀ j₀ entered pivots sets rows s i j =

@@ -4,10 +4,10 @@ use native.Mathlib.Omega.{arith}
 use borrow.Author.Needs.{needs}
 use Rattle.network_file.specs.File.{Sizes, networkOf}
 use Rattle.fields.proofs.Laws.{row-reach}
 use Rattle.chart.specs.Chart.{enteredDown, fileChartOn}
 use Rattle.chart.proofs.Files.{file-start}
-use Rattle.chart.proofs.of_file.Statement.{statement}
-use Rattle.chart.proofs.of_file.Tie as tie
+use Rattle.charting.proofs.of_file.Statement.{statement}
+use Rattle.charting.proofs.of_file.Tie as tie
 
 header-of-requires : tie.Need-header-of-requires
 header-of-requires c κs = search needs
