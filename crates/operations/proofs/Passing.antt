@@ -65,8 +65,8 @@ none-left w page [] pos room z = refl
 none-left w page (p ∷ rest) pos room z =
     let one : 1 ≤ length page / w = le-div-iff-mul-le {k = w} {x = 1} {y = length page} pos .1 (omega arith) in absurd (omega arith)
 
--- the start of a call that is met is empty or a tree of the list
-start-listed : (w : Network) → WellFormed (graphOf w) → (r : ℕ) (rs : List ℕ) → firstUnmet (startChecks w (r ∷ rs)) ≡ none → (r ∷ rs) ∈ layouts w
+-- a start that is given and meets its checks is a tree of the list
+pub start-listed : (w : Network) → WellFormed (graphOf w) → (r : ℕ) (rs : List ℕ) → firstUnmet (startChecks w (r ∷ rs)) ≡ none → (r ∷ rs) ∈ layouts w
 unfolding startChecks drawnChecks treeChecks
 start-listed w wf r rs h =
     let met = met-all (startChecks w (r ∷ rs)) .0 h in

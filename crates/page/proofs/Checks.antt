@@ -3,16 +3,16 @@
 use mathlib.Core.Path.{_∙_, _≡_, ap, refl, subst, sym}
 use mathlib.Core.Bool.{Bool, false, true}
 use mathlib.Core.Option.{Option·some-injective, none, some}
-use mathlib.Core.List.{List, [], _++_, _∷_, List·Memᴰ·head as here, List·Memᴰ·tail as there}
+use mathlib.Core.List.{List, [], _++_, _∷_}
 use Prim.Native.Nat.{_<_, _≤_, ℕ}
 use native.Mathlib.Omega.{arith}
 use lib.Dec.{T, leb}
 use lib.ListN.{length}
 use borrow.Author.Tests.{le-leb, lt-leb, ne-eqb}
 use Rattle.lists.proofs.Members.{same-of, same-out}
-use Rattle.lists.proofs.Tests.{T-same, T-true}
+use Rattle.lists.proofs.Tests.{T-same}
 use Rattle.lists.specs.Lists.{pick, same}
-use Rattle.checks.proofs.Checks.{firstUnmet-append, firstUnmet-met, firstUnmet-unmet, met-all}
+use Rattle.checks.proofs.Checks.{firstUnmet-append, firstUnmet-met, firstUnmet-unmet}
 use Rattle.checks.proofs.Ended.{checked-met, ended-met, ended-unmet, firstUnmet-stops, unmet-parts}
 use Rattle.checks.specs.Checks.{Check, firstUnmet, refused}
 use Rattle.drawn.specs.Answers.{drawnCall}
@@ -24,13 +24,12 @@ use Rattle.graph.proofs.Minimal.{WellFormed}
 use Rattle.graph.proofs.PathOf.{pathOf-is, pathOf-only}
 use Rattle.graph.specs.Graph.{Graph, width}
 use Rattle.graph.specs.Paths.{isMinimal, pathOf}
-use Rattle.costs.specs.Layouts.{keepsStates}
 use Rattle.costs.specs.Network.{Network}
-use Rattle.costs.proofs.Layouts.{layouts-mem}
 use Rattle.network_file.specs.File.{fileChecks, networkOf, openOf, sizesOf}
 use Rattle.network_file.proofs.Accepted.{accepted}
 use Rattle.operations.proofs.Files.{formed}
-use Rattle.operations.specs.Operations.{check, drawnChecks, graphIn, layoutsIn, pageCall, pageChecks, someTree, startChecks, treeChecks}
+use Rattle.operations.proofs.Passing.{start-listed}
+use Rattle.operations.specs.Operations.{check, drawnChecks, graphIn, layoutsIn, pageCall, pageChecks, someTree, startChecks}
 use Rattle.pages.proofs.TreePages.{Starts}
 use Rattle.pages.specs.Pages.{restAfter}
 use Rattle.paths.specs.Path.{rowsIn}
@@ -84,14 +83,9 @@ module _ (f : List ℕ) (met : firstUnmet (fileChecks f) ≡ none) where
   start-none (r ∷ rs) e = absurd (omega arith)
 
   -- a start that meets its checks is a tree of the network's own
-  pub start-listed : (start : List ℕ) → firstUnmet (startChecks w start) ≡ none → Starts (layoutsIn f) start
-  unfolding startChecks drawnChecks treeChecks
-  start-listed [] h few = absurd (omega arith)
-  start-listed (r ∷ rs) h few =
-      let each = met-all (startChecks w (r ∷ rs)) .0 h in
-      let kept = T-true _ .1 (each (check 15 (keepsStates w (r ∷ rs))) (there (there (there (here refl))))) in
-      let minimal = T-true _ .1 (each (check 13 (isMinimal g (r ∷ rs))) (there (there (there (there (here refl)))))) in
-      layouts-mem w (formed f (accepted f met)) (r ∷ rs) .1 (minimal, kept)
+  pub start-met : (start : List ℕ) → firstUnmet (startChecks w start) ≡ none → Starts (layoutsIn f) start
+  start-met [] h few = absurd (omega arith)
+  start-met (r ∷ rs) h few = start-listed w (formed f (accepted f met)) r rs h
 
 -- The call
 

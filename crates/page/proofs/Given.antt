@@ -26,7 +26,7 @@ use Rattle.pages.proofs.TreePages.{Starts}
 use Rattle.pages.specs.Pages.{restAfter}
 use Rattle.fill.specs.Walkable.{Walkable, filledBy}
 use Rattle.page.specs.Beginning.{ChartOf}
-use Rattle.page.proofs.Checks.{page-met, start-listed}
+use Rattle.page.proofs.Checks.{page-met, start-met}
 
 module _ {f c : List ℕ} (o : ChartOf f c) where
   file : Accepted f
@@ -70,7 +70,7 @@ module _ {f c : List ℕ} (o : ChartOf f c) where
     -- a start that meets its checks
     module _ (ok : firstUnmet (startChecks (networkOf f) start) ≡ none) where
       pub start-given : Starts (listIn c) start
-      start-given = subst (λ (L : List (List ℕ)). Starts L start) (sym list-read) (start-listed f (o .met) start ok)
+      start-given = subst (λ (L : List (List ℕ)). Starts L start) (sym list-read) (start-met f (o .met) start ok)
 
       pub page-given : (page : List ℕ) (a : Ended Paged (List ℕ)) → someTree (layoutsIn f) ≡ true → widthIn c ≤ length page
           → a ≡ filledBy (widthIn c) page (restAfter (listIn c) start) → a ≡ pageCall f page start
