@@ -1,17 +1,17 @@
--- Growing in the theory of growing paths: the words of fresh nodes stay right (`ready-after`, `ready-back`, `fresh-ready`), what `growOf` adds are
--- least legal steps (`grow-steps`), and `openPast` says what is still reached (`open-past`).
-use mathlib.Core.Path.{_∙_, _≡_, ap, refl, subst, sym}
+-- Growing in the theory of growing paths: the words of fresh nodes stay right (`ready-after`, `ready-back`, `fresh-ready`), and `openPast` says what is still reached
+-- (`open-past`).
+use mathlib.Core.Path.{_∙_, _≡_, ap, subst, sym}
 use mathlib.Core.Bool.{false}
 use mathlib.Core.Logic.{_↔_, _⊎_, inl, inr, ⊎-elim}
-use mathlib.Core.Option.{Option, none, some}
+use mathlib.Core.Option.{none}
 use mathlib.Core.List.{List, [], _++_, _∷_, append-nil, map-append, List·Memᴰ·not-nil as mem-nil}
-use Prim.Native.Nat.{_+_, _-_, _<_, _≤_, suc, zero, ℕ}
+use Prim.Native.Nat.{_+_, _-_, _<_, _≤_, ℕ}
 use native.Mathlib.Decide.{ℕ-discrete}
 use native.Mathlib.Nat.{mod-eq-of-lt}
 use native.Mathlib.Omega.{arith}
 use lib.Bits.{bitOr}
 use lib.Dec.{T, T-not, not-T}
-use lib.ListN.{length, length-append, length-map}
+use lib.ListN.{length, length-map}
 use lib.Seq.{append-snoc}
 use borrow.Author.Tests.{lt-ltb}
 use Rattle.lists.proofs.Members.{_∈_, not-snoc, range-out, snoc-new, snoc-old}
@@ -19,19 +19,16 @@ use Rattle.lists.proofs.Tests.{T-both, T-either}
 use Rattle.graph.specs.Graph.{Graph, rowNumbers}
 use Rattle.graph.specs.Paths.{Key}
 use Rattle.graph.proofs.Growth.{Legal, Reaches, State, after, bound, pivot-below, start}
-use Rattle.graph.proofs.Least.{AnyKey, Least, Sound, sound-after}
+use Rattle.graph.proofs.Least.{Sound, sound-after}
 use Rattle.graph.proofs.Minimal.{sound-start}
-use Rattle.graph.proofs.Walk.{Leasts, Legals, stateAfter}
+use Rattle.graph.proofs.Walk.{Legals, stateAfter}
 use Rattle.words.specs.Words.{bit, has, minus}
 use Rattle.words.proofs.Words.{bit-in, bit-out, has-minus, has-or}
 use Rattle.chart.proofs.Charts.{Charted, Charts, Ready, few}
 use Rattle.chart.specs.Chart.{graphIn, limitIn, nearIn}
 use Rattle.spread.proofs.Spreads.{spread-reaches}
-use Rattle.search.specs.Search.{stepIn}
-use Rattle.search.proofs.First.{first-least, first-none}
 use Rattle.paths.specs.Path.{enteredBy, extendedBy, nodesOf}
-use Rattle.grow.specs.Grow.{freshAfter, growOf, kept, openPast}
-use Rattle.grow.proofs.Laws.{grow-none, grow-over, grow-some}
+use Rattle.grow.specs.Grow.{freshAfter, kept, openPast}
 
 -- Fresh nodes
 
@@ -113,63 +110,12 @@ pub entered-step : {plant : ℕ} {entered : List ℕ} (keys : List Key) (k : Key
     → entered ++ (k .node ∷ []) ≡ enteredBy plant (keys ++ (k ∷ []))
 entered-step {plant} keys k e = rw (e, map-append (λ (k : Key). k .node) keys (k ∷ []))
 
--- `answer` is `keys` and least legal steps behind them, as many as asked or up to where there is none
-pub record Grown (g : Graph) (s : State) (keys answer : List Key) (steps : ℕ) : Type 0 where
-  pub more : List Key
-  pub whole : answer ≡ keys ++ more
-  pub least : Leasts g (rowNumbers g) s more
-  pub ends : (length more ≡ steps) ⊎ ((m : Key) → ¬ Legal g (rowNumbers g) (stateAfter s more) m)
-
 module _ {c : List ℕ} (right : Charts c) where
   abbrev g : Graph
   g = graphIn c
 
   abbrev charted : Charted (graphIn c) (nearIn false c) (limitIn c)
   charted = right .charted
-
-  short : length (graphIn c .firstEnds) ≤ 65536
-  short = omega (arith, few c)
-
-  abbrev grow : State → ℕ → ℕ → List Key → List Key
-  grow s steps fresh keys = growOf c (g .plant) steps fresh keys (s .place) (s .node)
-
-  abbrev find : State → ℕ → Option Key
-  find s fresh = stepIn c false fresh (s .entered) (s .place) (s .node)
-
-  -- a path with no step more, and with one
-  grown-still : (s : State) (steps : ℕ) (keys answer : List Key) → answer ≡ keys
-      → (0 ≡ steps) ⊎ ((m : Key) → ¬ Legal g (rowNumbers g) s m) → Grown g s keys answer steps
-  grown-still s steps keys answer e ends = record { more = []; whole = e ∙ sym (append-nil keys); least = tt; ends = ends }
-
-  grown-cons : (s : State) (steps : ℕ) (keys answer : List Key) (k : Key) → Least g (rowNumbers g) s AnyKey k → Grown g (after s k) (keys ++ (k ∷ [])) answer steps
-      → Grown g s keys answer (suc steps)
-  grown-cons s steps keys answer k h o = record {
-    more = k ∷ o .more;
-    whole = o .whole ∙ append-snoc keys k (o .more);
-    least = (h, o .least);
-    ends = ⊎-elim (λ e. inl (ap suc e)) inr (o .ends);
-  }
-
-  pub grow-steps : (steps : ℕ) (keys : List Key) {s : State} {fresh : ℕ}
-      → s .entered ≡ enteredBy (g .plant) keys → Ready g s fresh → length keys + steps ≤ 31
-      → Grown (graphIn c) s keys (growOf c (graphIn c .plant) steps fresh keys (s .place) (s .node)) steps
-  grow-steps zero keys {s} {fresh} e r room = grown-still s 0 keys (grow s 0 fresh keys) (grow-over _ _ 0 fresh keys _ _ refl) (inl refl)
-  grow-steps (suc steps) keys {s} {fresh} e r room =
-      turn (find s fresh) refl
-      (λ k h. grow-steps steps (keys ++ (k ∷ [])) (entered-step keys k e) (ready-after charted r h) (omega (arith, length-append keys (k ∷ []))))
-    where
-      turn : (o : Option Key) → find s fresh ≡ o
-          → ((k : Key) → Legal g (rowNumbers g) s k
-          → Grown g (after s k) (keys ++ (k ∷ [])) (grow (after s k) steps (minus fresh (bit (k .node))) (keys ++ (k ∷ []))) steps)
-          → Grown g s keys (grow s (suc steps) fresh keys) (suc steps)
-      turn none d later =
-          grown-still s (suc steps) keys (grow s (suc steps) fresh keys) (grow-none _ _ (suc steps) fresh keys _ _ (omega arith) e refl d)
-          (inr (first-none charted (right .headed) r d))
-      turn (some k) d later =
-          let h = first-least charted (right .headed) r k d in
-          let left : suc steps - 1 ≡ steps = omega arith in
-          rw (grow-some _ _ (suc steps) fresh keys _ _ k (omega arith) e refl d, step-kept keys short e (omega arith) (h .legal), left)
-          (grown-cons s steps keys _ k h (later k (h .legal)))
 
   -- whether a node is still reached once the bound is moved up to a step to it
   pub open-past : {s : State} {fresh : ℕ} (keys : List Key) (place node : ℕ) → s .entered ≡ enteredBy (g .plant) keys → Ready g s fresh

@@ -1,10 +1,11 @@
 -- Growing with must rows in the theory of growing paths: `claimedOf` is what must rows reach (`claimed-reaches`), `acceptedOf` the least accepted step (`accepted-least`,
--- `accepted-none`), so `growWith` adds least accepted steps (`grow-accepts`): where there is a completion with all must rows, the least of them (`grow-full`).
+-- `accepted-none`), so `growWith` adds least accepted steps (`grow-accepts`): where there is a completion with all must rows, the least of them (`grow-full`),
+-- and where no row is a must row, least legal steps (`free-grown`).
 use mathlib.Core.Path.{_∙_, _≡_, ap, refl, subst, sym}
 use mathlib.Core.Logic.{_↔_, _⊎_, inl, inr, ⊎-elim}
 use mathlib.Core.Bool.{false, not, true}
 use mathlib.Core.Option.{Option, none, some}
-use mathlib.Core.List.{List, [], _++_, _∷_, append-nil, Memᴰ·cast as mem-cast}
+use mathlib.Core.List.{List, [], _++_, _∷_, append-nil, List·Memᴰ·not-nil as mem-nil, Memᴰ·cast as mem-cast}
 use Prim.Native.Nat.{_+_, _-_, _<_, _≤_, suc, zero, ℕ}
 use native.Mathlib.Decide.{ℕ-discrete}
 use native.Mathlib.Omega.{arith}
@@ -23,7 +24,7 @@ use Rattle.graph.proofs.Keys.{KeyCases, KeyLess, ahead, beside, follows-in, fol
 use Rattle.graph.proofs.Least.{Least}
 use Rattle.graph.proofs.Masked.{joins-kept, joins-own, masked-legal, masked-reaches, reaches-masked}
 use Rattle.graph.proofs.Minimal.{rowNumbers-in}
-use Rattle.graph.proofs.Walk.{stateAfter, stateAfter-length}
+use Rattle.graph.proofs.Walk.{Leasts, stateAfter, stateAfter-length}
 use Rattle.states.proofs.Rest.{Begun}
 use Rattle.states.proofs.Full.{Accepted, Full, LeastFull, begun-after}
 use Rattle.states.proofs.Due.{Accepts, Due, accepts-end, accepts-least, accepts-legal, begun-walk}
@@ -399,3 +400,31 @@ module _ {c : List ℕ} (right : Charts c) where
       let o = grow-accepts steps keys e b r room in
       let all = ⊎-elim (λ w. w) (λ n. accepts-end (graphIn c) (mustsIn c) (right .charted .formed) s ms b once d ls (o .more) f (o .accepts) n) (grown-ends steps b enough o) in
       record { more = o .more; whole = o .whole; least = accepts-least (graphIn c) (mustsIn c) (right .charted .formed) s ms b once d ls (o .more) f (o .accepts) all }
+
+-- WITHOUT MUST ROWS least accepted steps are least legal ones
+
+-- `answer` is `keys` and least legal steps behind them, as many as asked or up to where there is none
+pub record Grown (g : Graph) (s : State) (keys answer : List Key) (steps : ℕ) : Type 0 where
+  pub more : List Key
+  pub whole : answer ≡ keys ++ more
+  pub least : Leasts g (rowNumbers g) s more
+  pub ends : (length more ≡ steps) ⊎ ((m : Key) → ¬ Legal g (rowNumbers g) (stateAfter s more) m)
+
+-- no row leads anywhere where there is none
+none-reached : {g : Graph} {s : State} {v : ℕ} → ¬ Reaches g [] s v
+none-reached (direct h e) = mem-nil (h .usable)
+none-reached (onward p i j n f) = mem-nil i
+
+free-leasts : (g : Graph) (s : State) (ks : List Key) → Accepts g [] s ks → Leasts g (rowNumbers g) s ks
+free-leasts g s [] a = tt
+free-leasts g s (k ∷ ks) a = (record { legal = a .0 .legal; passes = tt; least = λ m h p. a .0 .least m h (inr none-reached) }, free-leasts g (after s k) ks (a .1))
+
+pub free-grown : {g : Graph} {s : State} {musts : List ℕ} {keys answer : List Key} {steps : ℕ} → musts ≡ [] → GrownWith g musts s keys answer steps → Grown g s keys answer steps
+free-grown {g} {s} {musts} {keys} {answer} {steps} free with-all =
+    let o = subst (λ (ms : List ℕ). GrownWith g ms s keys answer steps) free with-all in
+    record {
+      more = o .more;
+      whole = o .whole;
+      least = free-leasts g s (o .more) (o .accepts);
+      ends = ⊎-elim inl (λ n. inr (λ m h. n m h (inr none-reached))) (o .ends);
+    }

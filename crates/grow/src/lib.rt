@@ -1,4 +1,4 @@
-//! Growing a path over a chart by first steps, of any rows or so that all must rows stay in reach, whether a step can be skipped, and whether rows have all must rows.
+//! Growing a path over a chart by first steps, so that all must rows stay in reach, whether a step can be skipped, and whether rows have all must rows.
 //! Each function is equal to its model in specs/Grow.antt or specs/Musts.antt.
 ghost use mathlib.Core.Bool.{false, true};
 ghost use mathlib.Core.Path.{_≡_};
@@ -6,57 +6,14 @@ ghost use Rattle.lists.specs.Lists.{hasAll, member, pick};
 ghost use Rattle.paths.specs.Path.{enteredBy, keysOf, plantOf};
 ghost use Rattle.chart.specs.Chart.{firstsIn, mustsIn, nearIn, plantIn};
 ghost use Rattle.graph.specs.Paths.{follows};
-ghost use Rattle.search.specs.Search.{foundOf, keyOf, stepIn};
+ghost use Rattle.search.specs.Search.{foundOf, keyOf};
 ghost use Rattle.spread.specs.Spread.{seedsOf};
 ghost use Rattle.states.specs.States.{mustRow};
-ghost use Rattle.grow.specs.Grow.{freshAfter, growOf, openPast};
+ghost use Rattle.grow.specs.Grow.{freshAfter, openPast};
 ghost use Rattle.grow.specs.Musts.{acceptedOf, claimingOf, earlierOf, firstOf, growWith, mustsMet};
 use paths::Path;
 use search::Found;
 use search::Step;
-
-// The first legal step of a path from a bound on.
-fn step_from(chart: &[u64; chart::LENGTH], fresh: u64, path: Path, place: usize, node: u8) -> Found
-    ensures { λ r. ⌜ foundOf r ≡ stepIn (now (chart .entry)) false fresh (enteredBy (plantOf path) (keysOf path)) place node ⌝ }
-{
-    let nodes = path.nodes;
-    let n = path.length() + 1;
-    search::first_step(chart, false, fresh, &nodes[..n], place, node)
-}
-
-/// A path with at most so many first steps more, from a bound on.
-pub fn grown(
-    chart: &[u64; chart::LENGTH],
-    steps: usize,
-    fresh: u64,
-    path: Path,
-    place: usize,
-    node: u8,
-) -> Path
-    ensures { λ r. ⌜ (plantOf r ≡ plantOf path) × (keysOf r ≡ growOf (now (chart .entry)) (plantOf path) steps fresh (keysOf path) place node) ⌝ }
-{
-    let mut p = path;
-    let mut open = fresh;
-    let mut i = place;
-    let mut j = node;
-    let mut left = steps;
-    while 0 < left {
-        left -= 1;
-        let found = step_from(chart, open, p, i, j);
-        let Found::At(step) = found else {
-            return p;
-        };
-        i = step.place;
-        j = step.node;
-        p = p.extended(
-            (step.place % 256) as u8,
-            step.node,
-            (step.row % 65536) as u16,
-        );
-        open = words::minus(open, words::bit(step.node));
-    }
-    p
-}
 
 /// The nodes but the entered ones of a path.
 pub fn fresh_after(nodes: u64, path: Path) -> u64

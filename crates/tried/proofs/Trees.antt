@@ -13,7 +13,7 @@ use lib.ListN.{getD, length, length-map, replicate}
 use lib.Seq.{ext-getD}
 use Rattle.lists.specs.Lists.{all, filterB, hasAll, member, pick, range}
 use Rattle.lists.proofs.Maps.{map-at}
-use Rattle.lists.proofs.Members.{_∈_, all-in, all-out, filter-in, filter-out, hasAll-in, hasAll-out, member-in, member-out, range-in, range-out}
+use Rattle.lists.proofs.Members.{_∈_, all-in, all-out, filter-in, filter-none, filter-out, hasAll-in, hasAll-out, member-in, member-out, range-in, range-out}
 use Rattle.lists.proofs.Tests.{T-both, T-false, T-same, T-true, decide, eq→eqb, pick-elim}
 use Rattle.graph.specs.Graph.{Graph, isTree, rowNumbers}
 use Rattle.graph.specs.Paths.{Key, andThen, pathOf, steps}
@@ -21,16 +21,20 @@ use Rattle.graph.proofs.Growth.{start}
 use Rattle.graph.proofs.Minimal.{WellFormed}
 use Rattle.graph.proofs.Walk.{Leasts}
 use Rattle.checks.specs.Checks.{Ended, answered, checked, ended, firstUnmet}
-use Rattle.costs.specs.Layouts.{isBarred, isMust, keepsStates, mustAt, mustRows, openEnd}
+use Rattle.costs.specs.Layouts.{isBarred, isMust, keepsStates, mustAt, mustEnd, mustRows, openEnd}
 use Rattle.costs.specs.Network.{Network, Row, State, graphOf, noRow}
+use Rattle.states.specs.States.{mustRow, mustsOf}
+use Rattle.states.proofs.With.{begun-start}
 use Rattle.words.specs.Words.{has}
 use Rattle.paths.specs.Path.{enteredBy}
-use Rattle.chart.specs.Chart.{countIn, graphIn, limitIn, nodesIn, plantIn, rowsIn, widthIn}
+use Rattle.chart.specs.Chart.{countIn, firstsIn, graphIn, limitIn, mustsIn, nodesIn, plantIn, rowsIn, widthIn}
 use Rattle.chart.proofs.Charts.{Charts, small}
 use Rattle.chart.proofs.Laws.{rows-length}
-use Rattle.chart.proofs.Made.{Chartable, blank, chartBy, graph-made, made-charts, nodes-made}
-use Rattle.grow.specs.Grow.{freshAfter, growOf}
-use Rattle.grow.proofs.Grow.{Grown, fresh-ready, grow-steps}
+use Rattle.chart.proofs.Made.{Chartable, blank, chartBy, graph-made, made-charts, must-firsts-made, nodes-made}
+use Rattle.grow.specs.Grow.{freshAfter}
+use Rattle.grow.specs.Musts.{growWith}
+use Rattle.grow.proofs.Grow.{fresh-ready}
+use Rattle.grow.proofs.Musts.{Grown, free-grown, grow-accepts}
 use Rattle.operations.specs.Operations.{check, treeChecks}
 use Rattle.tried.specs.Answers.{PathSteps, keysIn, minimalSteps, noSteps}
 use Rattle.tried.specs.Only.{marksOf, onlyOn, onlyRow, onlyRows}
@@ -109,6 +113,21 @@ module _ (c : List ℕ) (able : Drawable c) where
         ∙ ap₂ {C = Graph} (λ firsts seconds. record { plant = g .plant; nodes = g .nodes; firstEnds = firsts; secondEnds = seconds })
         (ends-only (λ row. row .firstEnd) (λ row b. refl)) (ends-only (λ row. row .secondEnd) (λ row b. refl))
 
+    -- none of its rows is a must row
+    no-musts : mustsIn alone ≡ []
+    unfolding mustRow
+    no-musts =
+        let firsts = ap (firstsIn true) alone-made ∙ must-firsts-made only-able (replicate 1416 0) blank in
+        ap mustsOf firsts ∙ filter-none _ _ (λ r i t.
+        let low : r < countIn c = omega (arith, length-map (onlyRows c marks) (λ (row : Row). mustEnd row (row .firstEnd)), only-length c marks, range-out 0 _ i) in
+        let free = map-at (λ row. mustEnd row (row .firstEnd)) (onlyRows c marks) r noRow 0 (omega (arith, only-length c marks))
+        ∙ ap (λ (row : Row). mustEnd row (row .firstEnd)) (row-at r low) ∙ by (getD (rowsIn c) r noRow) (member r rs) in
+        rw free at t)
+      where
+        by : (row : Row) (b : Bool) → mustEnd (onlyRow row b) (onlyRow row b .firstEnd) ≡ 0
+        by row true = refl
+        by row false = refl
+
     formed : WellFormed g
     formed =
         let f = subst (λ (x : Graph). WellFormed x) only-graph (right .charted .formed) in
@@ -123,10 +142,12 @@ module _ (c : List ℕ) (able : Drawable c) where
       grown =
           let long : length rs ≡ widthIn c = omega (arith, size, able .wide) in
           let all-nodes : nodesIn alone ≡ nodesIn c = ap nodesIn alone-made ∙ nodes-made only-able (replicate 1416 0) blank in
-          let steps = grow-steps right (length rs) [] refl (fresh-ready (right .charted) (nodesIn alone) [] (right .all) tt) (omega (arith, small c)) in
-          subst (λ (w : ℕ). Grown (only g rs) (start g) [] (growOf alone (plantIn c) w (freshAfter (nodesIn c) (enteredBy (plantIn c) [])) [] 0 0) (length rs)) long
-          (subst (λ (n : ℕ). Grown (only g rs) (start g) [] (growOf alone (plantIn c) (length rs) (freshAfter n (enteredBy (plantIn c) [])) [] 0 0) (length rs)) all-nodes
-          (subst (λ (x : Graph). Grown x (start x) [] (growOf alone (x .plant) (length rs) (freshAfter (nodesIn alone) (enteredBy (x .plant) [])) [] 0 0) (length rs)) only-graph steps))
+          let begun = begun-start (graphIn alone) (right .charted .formed) in
+          let ready = fresh-ready (right .charted) (nodesIn alone) [] (right .all) tt in
+          let steps = free-grown no-musts (grow-accepts right (length rs) [] refl begun ready (omega (arith, small c))) in
+          subst (λ (w : ℕ). Grown (only g rs) (start g) [] (growWith alone (plantIn c) w (freshAfter (nodesIn c) (enteredBy (plantIn c) [])) [] 0 0) (length rs)) long
+          (subst (λ (n : ℕ). Grown (only g rs) (start g) [] (growWith alone (plantIn c) (length rs) (freshAfter n (enteredBy (plantIn c) [])) [] 0 0) (length rs)) all-nodes
+          (subst (λ (x : Graph). Grown x (start x) [] (growWith alone (x .plant) (length rs) (freshAfter (nodesIn alone) (enteredBy (x .plant) [])) [] 0 0) (length rs)) only-graph steps))
 
       least : Leasts g rs (start g) keys
       least = rw (grown .whole) (only-leasts g formed rs known (start g) (grown .more) (grown .least))

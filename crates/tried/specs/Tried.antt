@@ -12,14 +12,15 @@ use Rattle.costs.specs.Layouts.{isBarred, isMust}
 use Rattle.costs.specs.Network.{State, noRow}
 use Rattle.paths.specs.Path.{enteredBy}
 use Rattle.chart.specs.Chart.{countIn, nodesIn, plantIn, rowsIn, widthIn}
-use Rattle.grow.specs.Grow.{freshAfter, growOf}
+use Rattle.grow.specs.Grow.{freshAfter}
+use Rattle.grow.specs.Musts.{growWith}
 use Rattle.operations.specs.Operations.{check}
 use Rattle.tried.specs.Answers.{PathSteps, noSteps}
 use Rattle.tried.specs.Only.{marksOf, onlyOn}
 
 -- the steps of the path that first steps grow over the drawn rows alone, from the plant on
 unfoldable pub drawnKeys : List ℕ → List Bool → List Key
-drawnKeys c drawn = growOf (onlyOn c drawn (replicate 1416 0)) (plantIn c) (widthIn c) (freshAfter (nodesIn c) (enteredBy (plantIn c) [])) [] 0 0
+drawnKeys c drawn = growWith (onlyOn c drawn (replicate 1416 0)) (plantIn c) (widthIn c) (freshAfter (nodesIn c) (enteredBy (plantIn c) [])) [] 0 0
 
 -- a row of this state keeps it: no barred row is drawn, and a must row is
 abbrev pub keeps : State → Bool → Bool

@@ -113,7 +113,7 @@ fn grown_over(chart: &[u64; chart::LENGTH], drawn: [bool; 256]) -> Path
     only_drawn(chart, drawn, &mut alone);
     let start = Path::start(chart::plant(chart));
     let fresh = grow::fresh_after(chart::nodes(chart), start);
-    grow::grown(&alone, chart::width(chart), fresh, start, 0, 0)
+    grow::grown_with(&alone, chart::width(chart), fresh, start, 0, 0)
 }
 
 // Whether a row keeps its state: no barred row is drawn, and a must row is.

@@ -23,8 +23,8 @@ fresh-after-requires c κs = search needs
 width-requires : tie.Need-width-requires
 width-requires c κs = search needs
 
-grown-requires : tie.Need-grown-requires
-grown-requires c κs = search needs
+grown-with-requires : tie.Need-grown-with-requires
+grown-with-requires c κs = search needs
 
 returns : tie.Need-returns
 unfolding drawnKeys
@@ -35,8 +35,8 @@ returns c =
     let at = start .start .ensures in
     let plant = at .0 ∙ start .before .plant .ensures in
     let alone = start .before .before .only-drawn .ensures in (
-      c .grown .ensures .0 ∙ plant,
-      c .grown .ensures .1 ∙ (rw (alone, fresh .fresh-after .ensures, fresh .before .nodes .ensures, width .width .ensures, at .1, plant)),
+      c .grown-with .ensures .0 ∙ plant,
+      c .grown-with .ensures .1 ∙ (rw (alone, fresh .fresh-after .ensures, fresh .before .nodes .ensures, width .width .ensures, at .1, plant)),
     )
 
 pub grown-over-spec : {M : Type 1} → statement M
@@ -49,5 +49,5 @@ grown-over-spec =
     nodes-requires
     fresh-after-requires
     width-requires
-    grown-requires
+    grown-with-requires
     returns)
