@@ -140,7 +140,7 @@ fn no_public_function_requires_anything() {
 fn a_contract_that_says_something_else_is_noticed() {
     let page = [
         ("≡ pageCall (now (file", "≡ pageOther (now (file"),
-        ("pageCall, startChecks}", "startChecks}"),
+        ("Operations.{pageCall}", "Operations.{pageChecks}"),
         ("buffers = now (page .exit) } ≡ pageCall", "buffers = now (page .entry) } ≡ pageCall"),
         ("≡ pageCall (now (file .entry)) (now (page .entry)) (now (start .entry))", "≡ pageCall (now (file .entry)) (now (page .entry)) []"),
         ("pub fn page(file: &[u8], page: &mut [u16], start: &[u16]) -> PageAnswer\n", "pub fn page(file: &[u8], page: &mut [u16], start: &[u16]) -> PageAnswer\n    requires { ⌜ 0 < length (now file) ⌝ }\n"),

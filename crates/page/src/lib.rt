@@ -1,5 +1,5 @@
 //! Page: the next trees of the list, as many as remain and fit.
-//! What the functions below `page` are given and answer stands in specs/Beginning.antt.
+//! What the functions below `page` are given is the chart of a file (crate start); what they answer stands in specs/Beginning.antt.
 ghost use mathlib.Core.Path.{_≡_};
 ghost use mathlib.Core.Bool.{true};
 ghost use mathlib.Core.List.{List};
@@ -7,15 +7,14 @@ ghost use Prim.Native.Nat.{ℕ};
 ghost use Rattle.lists.proofs.Members.{_∈_};
 ghost use Rattle.chart.proofs.Charts.{Charts};
 ghost use Rattle.chart.specs.Chart.{listIn, plantIn};
-ghost use Rattle.checks.specs.Checks.{firstUnmet};
 ghost use Rattle.grow.proofs.Leads.{MustsLead};
 ghost use Rattle.network.specs.Answers.{openedOf};
-ghost use Rattle.network_file.specs.File.{networkOf};
-ghost use Rattle.operations.specs.Operations.{pageCall, startChecks};
+ghost use Rattle.operations.specs.Operations.{pageCall};
 ghost use Rattle.paths.specs.Path.{keysOf, plantOf};
+ghost use Rattle.start.specs.Start.{ChartOf};
 ghost use Rattle.trace.specs.Trace.{tracedIn};
-ghost use Rattle.page.specs.Answers.{numbered, pagedOf, refusedBy};
-ghost use Rattle.page.specs.Beginning.{Beginning, ChartOf};
+ghost use Rattle.page.specs.Answers.{pagedOf, refusedBy};
+ghost use Rattle.page.specs.Beginning.{Beginning};
 use network::Opened;
 use paths::Path;
 use walk::Next;
@@ -38,20 +37,6 @@ fn seen_listed(chart: &[u64; chart::LENGTH], start: &[u16], path: Path) -> bool
         return grow::musts_met(chart, start);
     }
     false
-}
-
-// The number of the first check of the start that is not met, of 8, 9, 10, 15 and 13; 0 where there is none.
-fn start_number(chart: &[u64; chart::LENGTH], start: &[u16]) -> u8
-    ensures { λ r. ⌜ ((f : List ℕ) → ChartOf f (now (chart .entry)) → firstUnmet (startChecks (networkOf f) (now (start .entry))) ≡ numbered r) ⌝ }
-{
-    if start.len() == 0 {
-        return 0;
-    }
-    let drawn = tried::tried(chart, start);
-    if drawn.number != 0 {
-        return drawn.number;
-    }
-    if drawn.path.is_written(start) { 0 } else { 13 }
 }
 
 // What a call begins with: whether the network has a tree, the number of the first check of the start that is not met, 0 where there is none, and what comes first behind it.
@@ -86,7 +71,7 @@ fn begin(chart: &[u64; chart::LENGTH], start: &[u16]) -> Begun
     let first = walk::first(chart);
     Begun {
         tree: first.some,
-        number: start_number(chart, start),
+        number: start::number(chart, start),
         next: next,
     }
 }

@@ -14,9 +14,9 @@ use Rattle.fill.specs.Walkable.{Begins}
 use Rattle.network_file.specs.File.{networkOf}
 use Rattle.operations.specs.Operations.{layoutsIn, someTree, startChecks}
 use Rattle.pages.proofs.TreePages.{Starts}
-use Rattle.page.specs.Beginning.{ChartOf}
-use Rattle.page.proofs.Checks.{start-none}
-use Rattle.page.proofs.Given.{leads-given, list-read, listed-met, listed-tree, right-given, start-given, walk-given}
+use Rattle.start.specs.Start.{ChartOf}
+use Rattle.start.proofs.Checks.{start-none}
+use Rattle.start.proofs.Given.{leads-given, list-read, listed-met, listed-tree, right-given, start-given, walk-given}
 use Rattle.page.proofs.Seen.{first-tree}
 use borrow.Author.Needs.{needs}
 use Rattle.page.proofs.begin.Statement.{statement}
@@ -77,8 +77,8 @@ returns-2 c f o =
 first-requires-2 : tie.Need-first-requires-2
 first-requires-2 c κs = search needs
 
-start-number-requires : tie.Need-start-number-requires
-start-number-requires c κs = search needs
+number-requires : tie.Need-number-requires
+number-requires c κs = search needs
 
 returns-3 : tie.Need-returns-3
 returns-3 c f o =
@@ -86,7 +86,7 @@ returns-3 c f o =
     let next = c .before .before .before .before in
     let start = next .before .before .before .before .before .args .start .now in
     let tree : someTree (layoutsIn f) ≡ first .result .some = ap someTree (sym (list-read o)) ∙ first-tree (right-given o) (leads-given o) (first .result) (first .ensures .1) in
-    let number = c .start-number .ensures f o in
+    let number = c .number .ensures f o in
     record {
       tree = tree;
       number = number;
@@ -107,5 +107,5 @@ begin-spec =
     seen-listed-requires
     returns-2
     first-requires-2
-    start-number-requires
+    number-requires
     returns-3)

@@ -10,9 +10,10 @@ use Rattle.network_file.proofs.Opened.{open-answered, open-refused}
 use Rattle.network_file.specs.File.{networkOf}
 use Rattle.operations.specs.Operations.{Paged, startChecks}
 use Rattle.page.specs.Answers.{refusedBy}
-use Rattle.page.specs.Beginning.{Beginning, ChartOf}
-use Rattle.page.proofs.Checks.{page-none, page-open, page-short, page-start}
-use Rattle.page.proofs.Given.{page-given, start-given, walk-given, width-read}
+use Rattle.start.specs.Start.{ChartOf}
+use Rattle.start.proofs.Given.{start-given, walk-given, width-read}
+use Rattle.page.specs.Beginning.{Beginning}
+use Rattle.page.proofs.Checks.{page-given, page-none, page-open, page-short, page-start}
 use Rattle.page.proofs.page.Statement.{statement}
 use Rattle.page.proofs.page.Tie as tie
 

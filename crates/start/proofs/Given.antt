@@ -1,16 +1,15 @@
--- What the chart of a file tells `page`: it is right, with the network's width and list (`right-given`, `leads-given`, `width-read`, `list-read`); where there is a tree its trees
--- can be listed (`walk-given`), from a start that meets its checks on (`start-given`), as one of the list does (`listed-met`); and a page that is filled with them answers
--- Page's call (`page-given`).
+-- What the chart of a file tells: it is right, with the network's width and list (`right-given`, `leads-given`, `width-read`, `list-read`); where there is a tree its trees
+-- can be listed (`walk-given`), from a start that meets its checks on (`start-given`), as one of the list does (`listed-met`), which shows that there is one (`listed-tree`).
 use mathlib.Core.Path.{_∙_, _≡_, ap, subst, sym}
 use mathlib.Core.Bool.{true}
 use mathlib.Core.Option.{none}
 use mathlib.Core.List.{List}
-use Prim.Native.Nat.{_≤_, pred, ℕ}
+use Prim.Native.Nat.{pred, ℕ}
 use native.Mathlib.Omega.{arith}
 use lib.ListN.{length}
 use Rattle.lists.proofs.Members.{_∈_}
 use Rattle.lists.proofs.Tests.{T-true}
-use Rattle.checks.specs.Checks.{Ended, firstUnmet}
+use Rattle.checks.specs.Checks.{firstUnmet}
 use Rattle.chart.proofs.Charts.{Charts}
 use Rattle.chart.proofs.Files.{file-charts, file-list, file-width}
 use Rattle.chart.specs.Chart.{listIn, widthIn}
@@ -21,12 +20,11 @@ use Rattle.network_file.specs.File.{networkOf}
 use Rattle.operations.proofs.Exists.{some-in, some-out}
 use Rattle.operations.proofs.Files.{formed, node-count}
 use Rattle.operations.proofs.Runs.{listed-passes}
-use Rattle.operations.specs.Operations.{Paged, graphIn, layoutsIn, pageCall, someTree, startChecks}
+use Rattle.operations.specs.Operations.{graphIn, layoutsIn, someTree, startChecks}
 use Rattle.pages.proofs.TreePages.{Starts}
-use Rattle.pages.specs.Pages.{restAfter}
-use Rattle.fill.specs.Walkable.{Walkable, filledBy}
-use Rattle.page.specs.Beginning.{ChartOf}
-use Rattle.page.proofs.Checks.{page-met, start-met}
+use Rattle.fill.specs.Walkable.{Walkable}
+use Rattle.start.specs.Start.{ChartOf}
+use Rattle.start.proofs.Checks.{start-met}
 
 module _ {f c : List ℕ} (o : ChartOf f c) where
   file : Accepted f
@@ -71,10 +69,3 @@ module _ {f c : List ℕ} (o : ChartOf f c) where
     module _ (ok : firstUnmet (startChecks (networkOf f) start) ≡ none) where
       pub start-given : Starts (listIn c) start
       start-given = subst (λ (L : List (List ℕ)). Starts L start) (sym list-read) (start-met f (o .met) start ok)
-
-      pub page-given : (page : List ℕ) (a : Ended Paged (List ℕ)) → someTree (layoutsIn f) ≡ true → widthIn c ≤ length page
-          → a ≡ filledBy (widthIn c) page (restAfter (listIn c) start) → a ≡ pageCall f page start
-      page-given page a tree room e =
-          e ∙ ap (λ (L : List (List ℕ)). filledBy (widthIn c) page (restAfter L start)) list-read
-          ∙ ap (λ (w : ℕ). filledBy w page (restAfter (layoutsIn f) start)) width-read
-          ∙ page-met f page start (o .met) tree (rw (← width-read) room) ok

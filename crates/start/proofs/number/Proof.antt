@@ -1,9 +1,9 @@
 -- An empty start has no check; the checks of any other are those of its rows as drawn, and then 13.
 use mathlib.Core.Path.{_∙_}
 use borrow.Author.Needs.{needs}
-use Rattle.page.proofs.Checks.{start-drawn, start-none, start-path, start-tried}
-use Rattle.page.proofs.start_number.Statement.{statement}
-use Rattle.page.proofs.start_number.Tie as tie
+use Rattle.start.proofs.Checks.{start-drawn, start-none, start-path, start-tried}
+use Rattle.start.proofs.number.Statement.{statement}
+use Rattle.start.proofs.number.Tie as tie
 
 returns : tie.Need-returns
 returns c f o = start-none f (o .met) (c .before .before .args .start .now) (c .if1 .taken)
@@ -34,6 +34,6 @@ returns-4 c f o =
     start-path f (o .met) start (d .tried .result) (d .tried .ensures ∙ start-tried o start) (d .before .if1 .left) (c .before .before .if2 .left)
     ∙ (rw (← c .before .is-written .ensures, c .if3 .left))
 
-pub start-number-spec : {M : Type 1} → statement M
-start-number-spec =
+pub number-spec : {M : Type 1} → statement M
+number-spec =
     tie.close (tie.spec returns tried-requires returns-2 is-written-requires returns-3 returns-4)
