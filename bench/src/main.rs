@@ -1,8 +1,9 @@
 //! Measures the proved library beside plain Rust, both built for release, in one run, and prints tables; with the argument
-//! 'front' the fronts in seconds only, with 'count' the counts. It tests nothing but that both list the same trees, have the
-//! same fronts and count alike.
+//! 'front' the fronts in seconds only, with 'count' the counts, with 'index' the indexes. It tests nothing but that both list the
+//! same trees, have the same fronts, count alike, and build and fetch the same.
 
 mod count;
+mod index;
 mod limited;
 mod networks;
 mod seconds;
@@ -201,6 +202,8 @@ fn main() {
         [] => {
             tables();
             println!();
+            index::tables();
+            println!();
             seconds::table();
             println!();
             count::table();
@@ -208,9 +211,10 @@ fn main() {
         ["front"] => seconds::table(),
         ["front", line, way] => seconds::measure(line, way),
         ["count"] => count::table(),
+        ["index"] => index::tables(),
         ["count", line, network, way] => count::measure(line, network, way),
         _ => {
-            eprintln!("usage: bench/run [front | count]");
+            eprintln!("usage: bench/run [front | count | index]");
             std::process::exit(2);
         }
     }

@@ -62,6 +62,29 @@ extern "C" {
         answer_len: usize,
     ) -> u32;
 
+    fn planner_index_build(
+        file: *const u8,
+        file_len: usize,
+        spacing: u32,
+        index: *mut u16,
+        index_len: usize,
+        answer: *mut u32,
+        answer_len: usize,
+    ) -> u32;
+
+    fn planner_index_fetch(
+        file: *const u8,
+        file_len: usize,
+        spacing: u32,
+        index: *const u16,
+        index_len: usize,
+        tree: u64,
+        buffer: *mut u16,
+        buffer_len: usize,
+        answer: *mut u32,
+        answer_len: usize,
+    ) -> u32;
+
     fn planner_front(
         file: *const u8,
         file_len: usize,
@@ -173,6 +196,48 @@ pub fn page(file: &[u8], page: &mut [u16], start: &[u16], answer: &mut [u32]) ->
             page.len(),
             start.as_ptr(),
             start.len(),
+            answer.as_mut_ptr(),
+            answer.len(),
+        )
+    }
+}
+
+/// Tree by number, an index built: 0 with the index in the first places and how many trees it holds in the first place of the
+/// answer, or the refusal's number.
+pub fn index_build(file: &[u8], spacing: u32, index: &mut [u16], answer: &mut [u32]) -> u32 {
+    unsafe {
+        planner_index_build(
+            file.as_ptr(),
+            file.len(),
+            spacing,
+            index.as_mut_ptr(),
+            index.len(),
+            answer.as_mut_ptr(),
+            answer.len(),
+        )
+    }
+}
+
+/// Tree by number, a tree fetched: 0 with the tree in the buffer's first n - 1 places and the moves in the first place of the
+/// answer, or the refusal's number.
+pub fn index_fetch(
+    file: &[u8],
+    spacing: u32,
+    index: &[u16],
+    tree: u64,
+    buffer: &mut [u16],
+    answer: &mut [u32],
+) -> u32 {
+    unsafe {
+        planner_index_fetch(
+            file.as_ptr(),
+            file.len(),
+            spacing,
+            index.as_ptr(),
+            index.len(),
+            tree,
+            buffer.as_mut_ptr(),
+            buffer.len(),
             answer.as_mut_ptr(),
             answer.len(),
         )

@@ -1,9 +1,9 @@
 //! What the tests of the proved library share: the calls, a generator of numbers, network files, what damages them,
 //! networks and drawn rows, networks of known shapes, lent buffers, the library's list by its pages, how often what is
 //! counted came, the contracts in src/ as text, and independent code for document 01 in plain Rust: `reading`, `trees`,
-//! `costs` and `operations`, for two offices in one table `offices`, and for the number of trees `counts`; and for larger
-//! networks the front by a walk (`walk`, `walked`) and by a search (`search`), which of the two the library goes by
-//! (`choice`), and the networks of the study of that search (`study`).
+//! `costs` and `operations`, for two offices in one table `offices`, for the number of trees `counts`, and for trees by number
+//! `indexes`, with what damages an index; and for larger networks the front by a walk (`walk`, `walked`) and by a search
+//! (`search`), which of the two the library goes by (`choice`), and the networks of the study of that search (`study`).
 
 pub mod choice;
 pub mod contracts;
@@ -13,6 +13,8 @@ pub mod damage;
 pub mod draw;
 pub mod ffi;
 pub mod file;
+pub mod index_damage;
+pub mod indexes;
 pub mod lent;
 pub mod offices;
 pub mod operations;

@@ -26,7 +26,7 @@ pub fn count(file: &[u8]) -> Result<u32, u32> {
 }
 
 /// The checks of rows that were drawn in any sequence.
-fn drawn(network: &Network, rows: &[u16]) -> Result<(), u32> {
+pub fn drawn(network: &Network, rows: &[u16]) -> Result<(), u32> {
     if rows.len() != network.width() {
         return Err(8);
     }

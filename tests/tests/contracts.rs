@@ -40,6 +40,8 @@ fn the_first_table_has_every_operation() {
         "charge::charge",
         "page::page",
         "pick::pick",
+        "index::build",
+        "fetch::fetch",
         "front::front",
         "office::office",
     ];

@@ -14,12 +14,14 @@ use Rattle.operations.specs.Operations.{check, costCall, costChecks, drawnCheck
 use Rattle.operations.proofs.Runs.{claim}
 use Rattle.charges.specs.Charges.{chargeCall, chargeChecks}
 use Rattle.counts.specs.Count.{countCall, countChecks}
+use Rattle.indexes.specs.Index.{entryChecks, fetchCall, fetchChecks, indexCall, indexChecks}
 use Rattle.offices.specs.Offices.{Counts, officeCall, officeChecks}
 use Rattle.offices.proofs.Calls.{other-kept}
 use Rattle.offices.proofs.Offices.{offices}
 use Rattle.demands.specs.Demands.{Demand1, Demand2, Demand3, Passes, Tree, fileNumbers, numbers, startNumbers}
 use Rattle.demands.proofs.Counts.{count-claim}
 use Rattle.demands.proofs.Fronts.{front-claim, front-is}
+use Rattle.demands.proofs.Indexes.{fetch-claim, index-claim, index-none}
 use Rattle.demands.proofs.Pages.{complete, page-from}
 use Rattle.demands.proofs.Refusals.{refuses-checked, refuses-ended, start-order}
 use Rattle.demands.proofs.Trees.{drawn, listed-is, path-of-tree, tree-exists, tree-listed, twelve}
@@ -33,11 +35,12 @@ start-others (r ∷ rs) = refl
 page-others : (f page start : List ℕ) → member 12 (numbers (check 11 (leb (width (graphIn f)) (length page)) ∷ startChecks (networkOf f) start)) ≡ false
 page-others f page start = ap (λ (l : List ℕ). member 12 (11 ∷ l)) (start-order (networkOf f) start) ∙ start-others start
 
-pub demand-1 : (f rows : List ℕ) (criterion : ℕ) (buffer page start costs witnesses : List ℕ) (office h : ℕ) (counts : Counts)
-    → Demand1 f rows criterion buffer page start costs witnesses office h counts
-unfolding openOf reachCall countCall orderCall costCall chargeCall pageCall frontCall officeCall
-    fileChecks countChecks orderChecks costChecks chargeChecks pageChecks frontChecks officeChecks drawnChecks treeChecks
-demand-1 f rows criterion buffer page start costs witnesses office h counts = record {
+pub demand-1 : (f rows : List ℕ) (criterion : ℕ) (buffer page start : List ℕ) (spacing : ℕ) (index : List ℕ) (tree : ℕ) (costs witnesses : List ℕ) (office h : ℕ) (counts : Counts)
+    → Demand1 f rows criterion buffer page start spacing index tree costs witnesses office h counts
+unfolding openOf reachCall countCall orderCall costCall chargeCall pageCall indexCall fetchCall frontCall officeCall
+    fileChecks countChecks orderChecks costChecks chargeChecks pageChecks indexChecks fetchChecks frontChecks officeChecks drawnChecks treeChecks entryChecks
+    member any
+demand-1 f rows criterion buffer page start spacing index tree costs witnesses office h counts = record {
   opens = refuses-checked (fileChecks f) _;
   reaches = refuses-checked (fileChecks f) _;
   tallies = refuses-checked (countChecks f) _;
@@ -45,16 +48,21 @@ demand-1 f rows criterion buffer page start costs witnesses office h counts = re
   prices = refuses-ended (costChecks f rows buffer) _ buffer _;
   charges = refuses-ended (chargeChecks f rows criterion buffer) _ buffer _;
   pages = refuses-ended (pageChecks f page start) _ page _;
+  indexes = refuses-ended (indexChecks f spacing index) _ index _;
+  fetches = refuses-ended (fetchChecks f spacing index tree buffer) _ buffer _;
   fronts = refuses-ended (frontChecks f costs witnesses) _ (record { costs = costs; witnesses = witnesses }) _;
   notes = refuses-ended (officeChecks f rows office h counts (record { costs = costs; witnesses = witnesses })) _ (record { costs = costs; witnesses = witnesses }) _;
-  pages-none = twelve f _ (page-others f page start) _ page _;
-  fronts-none = twelve f _ (start-others []) _ (record { costs = costs; witnesses = witnesses }) _;
+  pages-none = twelve f (fileChecks f) _ (λ ok. ok) refl (page-others f page start) _ page _;
+  fronts-none = twelve f (fileChecks f) _ (λ ok. ok) refl (start-others []) _ (record { costs = costs; witnesses = witnesses }) _;
+  indexes-none = index-none f spacing index;
   file-order = refl;
   count-order = refl;
   order-order = refl;
   cost-order = refl;
   charge-order = refl;
   page-order = ap (λ (l : List ℕ). fileNumbers ++ (12 ∷ 11 ∷ l)) (start-order (networkOf f) start);
+  index-order = refl;
+  fetch-order = refl;
   front-order = refl;
   office-order = refl;
 }
@@ -77,6 +85,8 @@ demand-3 f ok rows tree =
       pages = claim f ok some;
       complete = complete f ok some;
       page-from = page-from f ok;
+      indexes = index-claim f;
+      fetches = fetch-claim f;
       is-front = front-is f ok;
       fronts = front-claim f ok some;
       offices = offices f ok;

@@ -11,7 +11,7 @@ use native.Mathlib.Omega.{arith}
 use lib.Dec.{T, eqb, leb, le→leb, ltb, lt→ltb}
 use lib.ListN.{getD, length}
 use borrow.Author.Tests.{eq-eqb}
-use Rattle.lists.specs.Lists.{all, any, member}
+use Rattle.lists.specs.Lists.{all, member}
 use Rattle.lists.proofs.Members.{_∈_, all-in, member-in}
 use Rattle.lists.proofs.Tests.{T-false, T-true}
 use Rattle.graph.specs.Graph.{Graph, isTree, width}
@@ -37,7 +37,7 @@ use Rattle.charges.proofs.Charges.{split, total-cost}
 use Rattle.table.specs.Enter.{Row}
 use Rattle.offices.specs.Offices.{Counts, entryOf, fitsIn, halfOf, halfRows, noteOf, officeCall, officeChecks, rowsAfter, tablesFit, written}
 use Rattle.offices.proofs.Calls.{entry-is}
-use Rattle.demands.specs.Demands.{ChargeClaim, Drawn, Exists, NoTree, Passes, PathOfTree, Tree, numbers}
+use Rattle.demands.specs.Demands.{ChargeClaim, Drawn, Exists, Passes, PathOfTree, Tree, numbers}
 
 module _ (f : List ℕ) (ok : Passes f) where
   abbrev g : Graph
@@ -145,26 +145,26 @@ module _ (f : List ℕ) (ok : Passes f) where
     exactly = (λ t. size-listed f a .0 (tree-listed .0 t), λ h. tree-listed .1 (size-listed f a .1 h));
   }
 
--- Check 12 behind the file's, which no other has: it is the first that is not met exactly if the file passes and there is no tree.
-module _ (f : List ℕ) (behind : List Check) (others : member 12 (numbers behind) ≡ false) where
+-- Check 12 behind checks that the file's are among, and that have no other 12: it is the first that is not met exactly if these are met and there is no tree.
+module _ (f : List ℕ) (first behind : List Check) (passes : firstUnmet first ≡ none → Passes f)
+    (before-others : member 12 (numbers first) ≡ false) (others : member 12 (numbers behind) ≡ false) where
   abbrev cs : List Check
-  cs = fileChecks f ++ (check 12 (someTree (layoutsIn f)) ∷ behind)
+  cs = first ++ (check 12 (someTree (layoutsIn f)) ∷ behind)
 
   not-in : (l : List ℕ) → member 12 l ≡ false → ¬ (12 ∈ l)
   not-in l e m = T-false (member 12 l) .1 e (member-in m)
 
-  file-others : member 12 (numbers (fileChecks f)) ≡ false
-  unfolding fileChecks member any
-  file-others = refl
+  abbrev pub Twelve : Type 0
+  Twelve = (firstUnmet first ≡ none) × ((rows : List ℕ) → ¬ Tree f rows)
 
-  stops-none : (firstUnmet cs ≡ some 12) ↔ NoTree f
+  stops-none : (firstUnmet cs ≡ some 12) ↔ Twelve
   stops-none =
-      let s = stops-only (fileChecks f) (check 12 (someTree (layoutsIn f))) behind (not-in _ file-others) (not-in _ others) in (
-        λ h. let (ok, unmet) = s .0 h in (ok, λ rows t. T-false (someTree (layoutsIn f)) .1 unmet (tree-listed f ok .0 (rows, t))),
-        λ (ok, absent). s .1 (ok, T-false (someTree (layoutsIn f)) .0 (λ t. let (rows, tree) = tree-listed f ok .1 t in absent rows tree)),
+      let s = stops-only first (check 12 (someTree (layoutsIn f))) behind (not-in _ before-others) (not-in _ others) in (
+        λ h. let (ok, unmet) = s .0 h in (ok, λ rows t. T-false (someTree (layoutsIn f)) .1 unmet (tree-listed f (passes ok) .0 (rows, t))),
+        λ (ok, absent). s .1 (ok, T-false (someTree (layoutsIn f)) .0 (λ t. let (rows, tree) = tree-listed f (passes ok) .1 t in absent rows tree)),
       )
 
-  pub twelve : {A B : Type 0} (x : A) (before after : B) → (ended cs x before after .outcome ≡ refused 12) ↔ NoTree f
+  pub twelve : {A B : Type 0} (x : A) (before after : B) → (ended cs x before after .outcome ≡ refused 12) ↔ Twelve
   twelve x before after = (
     λ h. stops-none .0 (ended-refused cs x before after 12 h),
     λ n. ap (λ (e : Ended _ _). e .outcome) (ended-unmet cs x before after 12 (stops-none .1 n)),

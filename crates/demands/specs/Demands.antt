@@ -14,29 +14,33 @@
 -- | charge::charge | charges Charges chargeCall      | 1, 2    |
 -- | page::page     | operations Operations pageCall  | 1, 3    |
 -- | pick::pick     | operations Operations pickCall  | 3       |
+-- | index::build   | indexes Index indexCall         | 1, 3    |
+-- | fetch::fetch   | indexes Index fetchCall         | 1, 3    |
 -- | front::front   | operations Operations frontCall | 1, 3    |
 -- | office::office | offices Offices officeCall      | 1, 2, 3 |
 --
 -- The functions for Rust and C, each with the definition that it hands on:
 --
--- | function                  | definition                    | hands on   |
--- |---------------------------|-------------------------------|------------|
--- | planner_c::planner_open   | planner_c Calls plannerOpen   | openOf     |
--- | planner_c::planner_reach  | planner_c Calls plannerReach  | reachCall  |
--- | planner_c::planner_count  | planner_c Calls plannerCount  | countCall  |
--- | planner_c::planner_order  | planner_c Calls plannerOrder  | orderCall  |
--- | planner_c::planner_cost   | planner_c Calls plannerCost   | costCall   |
--- | planner_c::planner_charge | planner_c Calls plannerCharge | chargeCall |
--- | planner_c::planner_page   | planner_c Calls plannerPage   | pageCall   |
--- | planner_c::planner_pick   | planner_c Calls plannerPick   | pickCall   |
--- | planner_c::planner_front  | planner_c Calls plannerFront  | frontCall  |
--- | planner_c::planner_office | planner_c Calls plannerOffice | officeCall |
+-- | function                       | definition                    | hands on   |
+-- |--------------------------------|-------------------------------|------------|
+-- | planner_c::planner_open        | planner_c Calls plannerOpen   | openOf     |
+-- | planner_c::planner_reach       | planner_c Calls plannerReach  | reachCall  |
+-- | planner_c::planner_count       | planner_c Calls plannerCount  | countCall  |
+-- | planner_c::planner_order       | planner_c Calls plannerOrder  | orderCall  |
+-- | planner_c::planner_cost        | planner_c Calls plannerCost   | costCall   |
+-- | planner_c::planner_charge      | planner_c Calls plannerCharge | chargeCall |
+-- | planner_c::planner_page        | planner_c Calls plannerPage   | pageCall   |
+-- | planner_c::planner_pick        | planner_c Calls plannerPick   | pickCall   |
+-- | planner_c::planner_index_build | planner_c Calls plannerIndex  | indexCall  |
+-- | planner_c::planner_index_fetch | planner_c Calls plannerFetch  | fetchCall  |
+-- | planner_c::planner_front       | planner_c Calls plannerFront  | frontCall  |
+-- | planner_c::planner_office      | planner_c Calls plannerOffice | officeCall |
 use mathlib.Core.Path.{_≡_}
 use mathlib.Core.Bool.{false}
 use mathlib.Core.Logic.{_↔_}
 use mathlib.Core.List.{List, [], _++_, _∷_, map}
 use mathlib.Core.Option.{none}
-use Prim.Native.Nat.{_*_, _<_, _≤_, min, ℕ}
+use Prim.Native.Nat.{_%_, _*_, _+_, _/_, _<_, _≤_, min, ℕ}
 use lib.ListN.{drop, getD, length, take}
 use lib.Dec.{T}
 use Rattle.lists.proofs.Distinct.{Distinct}
@@ -49,7 +53,7 @@ use Rattle.checks.proofs.Checks.{StopsAt}
 use Rattle.costs.specs.Costs.{costOf, dominates, front, vectorLess}
 use Rattle.costs.specs.Layouts.{keepsStates, mustRows}
 use Rattle.forests.proofs.Forest.{Forest}
-use Rattle.network_file.specs.File.{fileChecks, networkOf, openOf, sizesOf}
+use Rattle.network_file.specs.File.{fileChecks, networkOf, openOf, sizesOf, within}
 use Rattle.pages.specs.Pages.{capacity, pieces, restAfter}
 use Rattle.operations.specs.Operations.{FrontTables, Fronted, Paged, Reached, costCall, costChecks, frontCall, frontChecks, graphIn}
 use Rattle.operations.specs.Operations.{layoutsIn, orderCall, orderChecks, over, pageCall, pageChecks, pickCall, reachCall}
@@ -57,6 +61,7 @@ use Rattle.operations.specs.Runs.{Call, runOf}
 use Rattle.charges.specs.Charges.{Charge, Split, addedAt, chargeCall, chargeChecks, chargedNodes, chargesBy}
 use Rattle.counts.specs.Count.{countCall, countChecks}
 use Rattle.counts.specs.Trees.{treeCount}
+use Rattle.indexes.specs.Index.{entryAt, fetchCall, fetchChecks, indexCall, indexChecks}
 use Rattle.operations.proofs.Runs.{Claim}
 use Rattle.table.specs.Enter.{Row}
 use Rattle.offices.specs.Offices.{Counts, Half, fitsIn, halfOf, halfRows, noteOf, officeCall, officeChecks, partOf, rowsAfter, tablesFit, written}
@@ -95,7 +100,7 @@ startNumbers [] = []
 startNumbers (r ∷ rs) = 8 ∷ 9 ∷ 10 ∷ 15 ∷ 13 ∷ []
 
 -- Open, Reach and Count are lent nothing to write in
-pub record Demand1 (f rows : List ℕ) (criterion : ℕ) (buffer page start costs witnesses : List ℕ) (office h : ℕ) (counts : Counts) : Type 0 where
+pub record Demand1 (f rows : List ℕ) (criterion : ℕ) (buffer page start : List ℕ) (spacing : ℕ) (index : List ℕ) (tree : ℕ) (costs witnesses : List ℕ) (office h : ℕ) (counts : Counts) : Type 0 where
   pub opens : (e : ℕ) → (openOf f ≡ refused e) ↔ StopsAt (fileChecks f) e
   pub reaches : (e : ℕ) → (reachCall f ≡ refused e) ↔ StopsAt (fileChecks f) e
   pub tallies : (e : ℕ) → (countCall f ≡ refused e) ↔ StopsAt (countChecks f) e
@@ -103,18 +108,24 @@ pub record Demand1 (f rows : List ℕ) (criterion : ℕ) (buffer page start cost
   pub prices : Refuses (costChecks f rows buffer) (costCall f rows buffer) buffer
   pub charges : Refuses (chargeChecks f rows criterion buffer) (chargeCall f rows criterion buffer) buffer
   pub pages : Refuses (pageChecks f page start) (pageCall f page start) page
+  pub indexes : Refuses (indexChecks f spacing index) (indexCall f spacing index) index
+  pub fetches : Refuses (fetchChecks f spacing index tree buffer) (fetchCall f spacing index tree buffer) buffer
   pub fronts : Refuses (frontChecks f costs witnesses) (frontCall f costs witnesses) (record { costs = costs; witnesses = witnesses })
   pub notes : let lent : FrontTables = record { costs = costs; witnesses = witnesses } in Refuses (officeChecks f rows office h counts lent) (officeCall f rows office h counts lent) lent
   -- 12 exactly if there is no tree
   pub pages-none : (pageCall f page start .outcome ≡ refused 12) ↔ NoTree f
   pub fronts-none : (frontCall f costs witnesses .outcome ≡ refused 12) ↔ NoTree f
-  -- document 01's order, with 14, 15, 22, 24 and 25 of document 02
+  -- and the spacing is in range, which is asked before
+  pub indexes-none : (indexCall f spacing index .outcome ≡ refused 12) ↔ (T (within 1 1000 spacing) × NoTree f)
+  -- document 01's order, with 14, 15, 22, 24, 25 and 26 of document 02
   pub file-order : numbers (fileChecks f) ≡ fileNumbers
   pub count-order : numbers (countChecks f) ≡ fileNumbers ++ (25 ∷ [])
   pub order-order : numbers (orderChecks f rows buffer) ≡ fileNumbers ++ (8 ∷ 9 ∷ 10 ∷ 15 ∷ 11 ∷ [])
   pub cost-order : numbers (costChecks f rows buffer) ≡ fileNumbers ++ (8 ∷ 9 ∷ 10 ∷ 15 ∷ 11 ∷ [])
   pub charge-order : numbers (chargeChecks f rows criterion buffer) ≡ fileNumbers ++ (8 ∷ 9 ∷ 10 ∷ 15 ∷ 11 ∷ 22 ∷ [])
   pub page-order : numbers (pageChecks f page start) ≡ fileNumbers ++ (12 ∷ 11 ∷ startNumbers start)
+  pub index-order : numbers (indexChecks f spacing index) ≡ fileNumbers ++ (26 ∷ 12 ∷ 11 ∷ [])
+  pub fetch-order : numbers (fetchChecks f spacing index tree buffer) ≡ fileNumbers ++ (26 ∷ 11 ∷ 26 ∷ 9 ∷ 10 ∷ 15 ∷ 13 ∷ 26 ∷ [])
   pub front-order : numbers (frontChecks f costs witnesses) ≡ fileNumbers ++ (12 ∷ 11 ∷ [])
   pub office-order : numbers (officeChecks f rows office h counts (record { costs = costs; witnesses = witnesses })) ≡ fileNumbers ++ (8 ∷ 9 ∷ 10 ∷ 15 ∷ 11 ∷ 24 ∷ [])
 
@@ -176,7 +187,7 @@ pub record Demand2 (f : List ℕ) : Type 0 where
   pub counted : CountClaim f
   pub drawn : (rows : List ℕ) (tree : Tree f rows) → Drawn f rows (each rows (tree .0) .path)
 
--- Demand 3, of a file that passes and whose network has a tree: the run of pages, for every list of calls; the front beside it; and the fronts of two offices'
+-- Demand 3, of a file that passes and whose network has a tree: the run of pages, for every list of calls; trees by their number; the front beside it; and the fronts of two offices'
 -- entries, in one table.
 
 -- the trees of the network, each once, as their minimal paths
@@ -194,6 +205,26 @@ pub record PageFrom (f page start : List ℕ) (a : Paged) : Type 0 where
   pub rest : drop (a .count * width (graphIn f)) (pageCall f page start .buffers) ≡ drop (a .count * width (graphIn f)) page
   pub picked : (t : ℕ) → t < a .count
       → pickCall (sizesOf f .n) (pageCall f page start .buffers) t ≡ getD (pieces (width (graphIn f)) (a .count) (pageCall f page start .buffers)) t []
+
+-- an index that was built, of n trees: it has tree i × s of the list at place i, for every tree that there is, and then the buffer as it was; and a fetch from it gives
+-- the list's tree t by t % s moves, or 26 where the list has no such tree
+pub record IndexClaim (f : List ℕ) (s : ℕ) (index : List ℕ) (n : ℕ) : Type 0 where
+  pub every : (i : ℕ) → (i < n) ↔ (i * s < length (layoutsIn f))
+  pub entries : (i : ℕ) → i < n → getD (pieces (width (graphIn f)) n (indexCall f s index .buffers)) i [] ≡ getD (layoutsIn f) (i * s) []
+  pub rest : drop (n * width (graphIn f)) (indexCall f s index .buffers) ≡ drop (n * width (graphIn f)) index
+  pub fetched : (t : ℕ) (buffer : List ℕ) → width (graphIn f) ≤ length buffer → t < length (layoutsIn f)
+      → fetchCall f s (take (n * width (graphIn f)) (indexCall f s index .buffers)) t buffer
+      ≡ record { outcome = answered (t % s); buffers = over (getD (layoutsIn f) t []) buffer }
+  pub past : (t : ℕ) (buffer : List ℕ) → width (graphIn f) ≤ length buffer → length (layoutsIn f) ≤ t
+      → fetchCall f s (take (n * width (graphIn f)) (indexCall f s index .buffers)) t buffer ≡ record { outcome = refused 26; buffers = buffer }
+
+-- a fetch from any index that is answered by m: the entry for t is the list's tree at some place, and the tree written stands m places behind it
+pub record FetchClaim (f : List ℕ) (s : ℕ) (index : List ℕ) (t : ℕ) (buffer : List ℕ) (m : ℕ) : Type 0 where
+  pub moves : m ≡ t % s
+  pub place : ℕ
+  pub entry : getD (layoutsIn f) place [] ≡ entryAt (width (graphIn f)) index (t / s)
+  pub reached : place + m < length (layoutsIn f)
+  pub written : fetchCall f s index t buffer .buffers ≡ over (getD (layoutsIn f) (place + m) []) buffer
 
 -- v is the cost vector of a tree of the network
 abbrev pub Costs : List ℕ → List ℕ → Type 0
@@ -239,6 +270,8 @@ pub record Demand3 (f : List ℕ) : Type 0 where
   pub complete : (pages : List (List ℕ)) (c : Call) (a : Paged) → c ∈ runOf f pages .calls → c .outcome ≡ answered a → a .more ≡ false
       → EveryTree f (runOf f pages .written)
   pub page-from : (page start : List ℕ) (a : Paged) → pageCall f page start .outcome ≡ answered a → PageFrom f page start a
+  pub indexes : (s : ℕ) (index : List ℕ) (n : ℕ) → indexCall f s index .outcome ≡ answered n → IndexClaim f s index n
+  pub fetches : (s : ℕ) (index : List ℕ) (t : ℕ) (buffer : List ℕ) (m : ℕ) → fetchCall f s index t buffer .outcome ≡ answered m → FetchClaim f s index t buffer m
   pub is-front : FrontIs f
   pub fronts : (costs witnesses : List ℕ) → sizesOf f .k ≤ length costs → width (graphIn f) ≤ length witnesses → FrontClaim f costs witnesses
   -- two offices in one table of 2 × h rows, for every sequence of entries from an empty table; and each call, whatever it is handed

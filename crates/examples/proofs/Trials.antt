@@ -15,6 +15,7 @@ use Rattle.table.specs.Enter.{beside, filled}
 use Rattle.charges.specs.Charges.{borneBy, chargeCall, chargeChecks, chargesBy}
 use Rattle.counts.specs.Count.{countCall, countChecks}
 use Rattle.counts.specs.Trees.{countRows, treeCount, whole}
+use Rattle.indexes.specs.Index.{entryChecks, everyFrom, fetchCall, fetchChecks, indexCall, indexChecks}
 use Rattle.offices.specs.Offices.{entryOf, officeCall, officeChecks, tablesFit}
 use Rattle.shuffles.specs.Shuffles.{Shuffled, partParallel}
 use Rattle.shuffles.proofs.Shuffles.{shuffled-by}
@@ -24,9 +25,11 @@ pub trials-right : AllRight table
 unfolding all range filterB first insert sort sequences same member sum largest placeOf stepOf stepsFrom ascending keysLess isMinimal isTree trees streetsOf costOf noneLarger
     someSmaller vectorLess caseAfter once frontOf treeWith frontTrees behind flat capacity firstUnmet checked ended networkOf fileChecks openOf reachedNodes wordOf reachCall
     treeChecks drawnChecks startChecks orderChecks orderCall costChecks costCall pageChecks pageCall frontOver frontChecks frontCall borneBy chargesBy chargeChecks chargeCall
-    any beside filled pieces entryOf tablesFit officeChecks officeCall whole countRows treeCount countChecks countCall partParallel
+    any beside filled pieces entryOf tablesFit officeChecks officeCall whole countRows treeCount countChecks countCall partParallel everyFrom indexChecks indexCall
+    entryChecks fetchChecks fetchCall
 trials-right =
-    let from-68 : AllRight (drop 68 table) = (refl, (refl, (refl, (refl, (refl, (refl, (refl, (refl, (refl, (refl, (refl, (refl, (refl, (refl, (refl, (refl, tt)))))))))))))))) in
+    let from-85 : AllRight (drop 85 table) = (refl, (refl, (refl, (refl, (refl, (refl, (refl, (refl, (refl, (refl, (refl, (refl, (refl, (refl, (refl, (refl, (refl, tt))))))))))))))))) in
+    let from-68 : AllRight (drop 68 table) = (refl, (refl, (refl, (refl, (refl, (refl, (refl, (refl, (refl, (refl, (refl, (refl, (refl, (refl, (refl, (refl, (refl, from-85))))))))))))))))) in
     let from-51 : AllRight (drop 51 table) = (refl, (refl, (refl, (refl, (refl, (refl, (refl, (refl, (refl, (refl, (refl, (refl, (refl, (refl, (refl, (refl, (refl, from-68))))))))))))))))) in
     let from-34 : AllRight (drop 34 table) = (refl, (refl, (refl, (refl, (refl, (refl, (refl, (refl, (refl, (refl, (refl, (refl, (refl, (refl, (refl, (refl, (refl, from-51))))))))))))))))) in
     let from-17 : AllRight (drop 17 table) = (refl, (refl, (refl, (refl, (refl, (refl, (refl, (refl, (refl, (refl, (refl, (refl, (refl, (refl, (refl, (refl, (refl, from-34))))))))))))))))) in

@@ -1,6 +1,7 @@
 -- Document 01's starred trials, as questions to the definitions of the operations, each with its answer, on network A's file; and trials
 -- of document 02's row states (#102) and first witness (#101) on files with the same ends, of streets closed once (#103) on network C's, of
--- comparison by cases (#105), of the connection charge (#109), of two offices in one table (#111), of the count (#112), and of shuffled rows (#113).
+-- comparison by cases (#105), of the connection charge (#109), of two offices in one table (#111), of the count (#112), of shuffled rows (#113), and of
+-- trees by number (#114).
 use mathlib.Core.Path.{_≡_}
 use mathlib.Core.Bool.{Bool, false, true}
 use mathlib.Core.List.{List, [], _∷_, map}
@@ -15,6 +16,7 @@ use Rattle.network_file.specs.File.{Sizes, networkOf, openOf}
 use Rattle.operations.specs.Operations.{FrontTables, Fronted, Paged, Reached, costCall, frontCall, graphIn, layoutsIn, orderCall, pageCall, reachCall}
 use Rattle.charges.specs.Charges.{Charge, chargeCall, chargeOf, chargesBy}
 use Rattle.counts.specs.Count.{countCall}
+use Rattle.indexes.specs.Index.{fetchCall, indexCall}
 use Rattle.offices.specs.Offices.{Counts, Noted, officeCall}
 use Rattle.shuffles.specs.Shuffles.{partParallel, renamedPath}
 use Rattle.examples.specs.Examples.{A, B, C}
@@ -99,6 +101,9 @@ pub data Trial : Type 0 where
   office : List ℕ → List ℕ → ℕ → ℕ → Counts → FrontTables → Ended Noted FrontTables → Trial
   -- Page after this path, with a page of three places
   page : List ℕ → List ℕ → Ended Paged (List ℕ) → Trial
+  -- an index of this spacing, built in this buffer; and a tree fetched with one, by its number, into a buffer of three places
+  index : List ℕ → ℕ → List ℕ → Ended ℕ (List ℕ) → Trial
+  fetch : List ℕ → ℕ → List ℕ → ℕ → Ended ℕ (List ℕ) → Trial
   -- Front with tables of three places each, which hold one row
   frontIn : List ℕ → Ended Fronted FrontTables → Trial
   -- and of two vectors: dominance, and the cases after each number of components
@@ -124,6 +129,8 @@ Right (cost f rows e) = costCall f rows buffer ≡ e
 Right (charge f rows criterion buffer e) = chargeCall f rows criterion buffer ≡ e
 Right (office f rows number h counts lent e) = officeCall f rows number h counts lent ≡ e
 Right (page f start e) = pageCall f buffer start ≡ e
+Right (index f s places e) = indexCall f s places ≡ e
+Right (fetch f s places t e) = fetchCall f s places t buffer ≡ e
 Right (frontIn f e) = frontCall f buffer buffer ≡ e
 Right (dominance v w b) = dominates v w ≡ b
 Right (cases v w l) = map (λ i. caseAfter i v w) (range 0 (suc (length v))) ≡ l
@@ -165,6 +172,14 @@ noted new count costs witnesses = record { outcome = answered (record { entered 
 
 abbrev notNoted : ℕ → Ended Noted FrontTables
 notNoted e = record { outcome = refused e; buffers = lent }
+
+-- so many trees, or moves, with the buffer afterwards
+abbrev tells : ℕ → List ℕ → Ended ℕ (List ℕ)
+tells n after = record { outcome = answered n; buffers = after }
+
+-- trees 0, 2 and 4 of network A
+abbrev everySecond : List ℕ
+everySecond = 0 ∷ 2 ∷ 1 ∷ 2 ∷ 2 ∷ 3 ∷ []
 
 abbrev pub table : List Trial
 table =
@@ -271,4 +286,26 @@ table =
     ∷ parting fileA (0 ∷ 2 ∷ []) (2 ∷ 3 ∷ []) false
     ∷ fronts shuffledA ((7 ∷ 7 ∷ []) ∷ (8 ∷ 6 ∷ []) ∷ (11 ∷ 5 ∷ []) ∷ [])
     ∷ frontIn shuffledA (fronted 1 false (7 ∷ 7 ∷ 9 ∷ []) (2 ∷ 0 ∷ 9 ∷ []))
+    -- document 02, #114: trees 0, 2 and 4 of five, and what stood behind them; one of five where s is 5; all of them
+    ∷ index fileA 2 (9 ∷ 9 ∷ 9 ∷ 9 ∷ 9 ∷ 9 ∷ 7 ∷ []) (tells 3 (0 ∷ 2 ∷ 1 ∷ 2 ∷ 2 ∷ 3 ∷ 7 ∷ []))
+    ∷ index fileA 5 buffer (tells 1 (0 ∷ 2 ∷ 9 ∷ []))
+    ∷ index fileB 1 (9 ∷ 9 ∷ 9 ∷ 9 ∷ []) (tells 2 (1 ∷ 3 ∷ 2 ∷ 3 ∷ []))
+    -- 26, then 12, then 11
+    ∷ index fileA 4 buffer (refusedBy 11)
+    ∷ index fileA 1001 [] (record { outcome = refused 26; buffers = [] })
+    ∷ index (withStates 1 1 0 0) 0 buffer (refusedBy 26)
+    ∷ index (withStates 1 1 0 0) 2 [] (record { outcome = refused 12; buffers = [] })
+    -- trees 3 and 4; the list ends before the move to tree 5, and there is no entry for tree 6, or where the last is not whole
+    ∷ fetch fileA 2 everySecond 3 (tells 1 (1 ∷ 3 ∷ 9 ∷ []))
+    ∷ fetch fileA 2 everySecond 4 (tells 0 (2 ∷ 3 ∷ 9 ∷ []))
+    ∷ fetch fileA 2 everySecond 5 (refusedBy 26)
+    ∷ fetch fileA 2 everySecond 6 (refusedBy 26)
+    ∷ fetch fileA 2 (0 ∷ 2 ∷ 1 ∷ []) 2 (refusedBy 26)
+    ∷ fetch fileA 0 everySecond 3 (refusedBy 26)
+    -- with another index, the tree behind the entry found there; 9, 10, 15 and 13 of it
+    ∷ fetch fileA 1000 (0 ∷ 3 ∷ []) 3 (tells 3 (2 ∷ 3 ∷ 9 ∷ []))
+    ∷ fetch fileA 1000 (0 ∷ 4 ∷ []) 3 (refusedBy 9)
+    ∷ fetch fileA 1000 (0 ∷ 1 ∷ []) 3 (refusedBy 10)
+    ∷ fetch fileB 1000 (0 ∷ 3 ∷ []) 3 (refusedBy 15)
+    ∷ fetch fileA 1000 (3 ∷ 0 ∷ []) 3 (refusedBy 13)
     ∷ []

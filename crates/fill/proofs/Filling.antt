@@ -2,39 +2,30 @@
 -- one more (`placed-next`, `filled-next`), the last one read back (`read-back`), and the two ends: the page is full (`filled-full`), or the list is over (`filled-over`).
 use mathlib.Core.Path.{_∙_, _≡_, ap, refl, sym}
 use mathlib.Core.Bool.{Bool, false, true}
-use mathlib.Core.Option.{Option·none-ne-some, Option·some-injective, Option·some-ne-none, none, some}
-use mathlib.Core.List.{List, [], _++_, _∷_, append-assoc, append-nil, List·Memᴰ·head as here, List·Memᴰ·tail as there}
+use mathlib.Core.Option.{Option·none-ne-some, Option·some-injective, none, some}
+use mathlib.Core.List.{List, [], _++_, _∷_, append-assoc, append-nil}
 use Prim.Native.Nat.{_*_, _+_, _-_, _/_, _<_, _≤_, min, suc, zero, ℕ}
 use native.Mathlib.Nat.{add-mul, div-eq-of-lt-le, le-div-iff-mul-le, one-mul, suc-mul}
 use native.Mathlib.Numerals.{add-one}
 use native.Mathlib.Omega.{arith}
 use lib.Dec.{ltb}
-use lib.ListN.{drop, getElem?, length, length-append, length-take, take}
+use lib.ListN.{drop, getElem?, length, length-take, take}
 use lib.Seq.{drop-at, drop-drop, paste, take-all, take-at}
 use borrow.Author.Tests.{le-ltb, lt-ltb}
-use Rattle.lists.proofs.Ascending.{at-mem, getD-at}
+use Rattle.lists.proofs.Ascending.{at-mem, getD-at, none-past}
 use Rattle.lists.proofs.Members.{_∈_, take-out}
 use Rattle.checks.specs.Checks.{answered}
+use Rattle.pages.proofs.Pages.{length-flat}
 use Rattle.pages.specs.Pages.{flat}
 use Rattle.fill.specs.Walkable.{filledBy}
 
 -- One tree after the other
-
-length-flat : (w : ℕ) (l : List (List ℕ)) → ((p : List ℕ) → p ∈ l → length p ≡ w) → length (flat l) ≡ length l * w
-unfolding flat
-length-flat w [] long = omega arith
-length-flat w (p ∷ l) long = omega (arith, length-append p (flat l), long p (here refl), length-flat w l (λ q m. long q (there m)))
 
 flat-next : (n : ℕ) (l : List (List ℕ)) (p : List ℕ) → getElem? l n ≡ some p → flat (take (suc n) l) ≡ flat (take n l) ++ p
 unfolding flat
 flat-next n [] p e = absurd (Option·none-ne-some _ e)
 flat-next zero (q ∷ l) p e = append-nil q ∙ Option·some-injective _ _ e
 flat-next (suc n) (q ∷ l) p e = ap (λ (k : List ℕ). q ++ k) (flat-next n l p e) ∙ sym (append-assoc q (flat (take n l)) p)
-
-none-past : (l : List (List ℕ)) (n : ℕ) → getElem? l n ≡ none → length l ≤ n
-none-past [] n e = omega arith
-none-past (p ∷ l) zero e = absurd (Option·some-ne-none _ e)
-none-past (p ∷ l) (suc n) e = omega (arith, none-past l n e)
 
 -- The page
 

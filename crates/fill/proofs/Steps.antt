@@ -47,13 +47,17 @@ module _ (c : List ℕ) (b : Bool) (keys : List Key) (rows : Option (List ℕ)) 
 pub list-part : (c : List ℕ) → Part (graphIn c) (listIn c)
 list-part c = with-part (graphIn c) (mustsIn c)
 
+-- all its trees have its width
+pub listed-long : {c : List ℕ} → Walkable c → (p : List ℕ) → p ∈ listIn c → length p ≡ widthIn c
+listed-long {c} w p m = omega (arith, part-length (list-part c) p m, w .right .wide)
+
 -- from a path with all must rows on: the tree behind it
 module _ {c : List ℕ} (w : Walkable c) (keys : List Key) (full : Full (graphIn c) (start (graphIn c)) (mustsIn c) keys) where
   listed : rowsOf keys ∈ listIn c
   listed = with-of (graphIn c) (w .right .charted .formed) (mustsIn c) keys full
 
   pub full-long : length keys ≡ widthIn c
-  full-long = omega (arith, rowsOf-length keys, part-length (list-part c) (rowsOf keys) listed, w .right .wide)
+  full-long = sym (rowsOf-length keys) ∙ listed-long w (rowsOf keys) listed
 
   abbrev next : Option (List ℕ)
   next = getElem? (behind (rowsOf keys) (listIn c)) 0

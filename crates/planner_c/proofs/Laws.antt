@@ -82,6 +82,11 @@ module _ {A B : Type 0} (values : A → List ℕ) (e : Ended A B) (lent : B) (an
     unfolding answeringBeside
     beside-refused places number enough told = rw (← ends) (simp (le-ltb _ _ enough, told))
 
+    pub beside-one : (a : A) (x : ℕ) → 1 ≤ length answer → outcome ≡ answered a → values a ≡ x ∷ []
+        → record { code = 0; buffers = record { lent = after; answer = set answer 0 x } } ≡ answeringBeside 1 values e lent answer
+    unfolding answeringBeside
+    beside-one a x enough told same = rw (← ends) (simp (le-ltb _ _ enough, told, same, over-one answer x enough))
+
     pub beside-two : (a : A) (x y : ℕ) → 2 ≤ length answer → outcome ≡ answered a → values a ≡ x ∷ y ∷ []
         → record { code = 0; buffers = record { lent = after; answer = set (set answer 0 x) 1 y } } ≡ answeringBeside 2 values e lent answer
     unfolding answeringBeside

@@ -12,6 +12,7 @@ use Rattle.network_file.specs.File.{Sizes, openOf}
 use Rattle.operations.specs.Operations.{FrontTables, Fronted, Paged, Reached, costCall, frontCall, orderCall, over, pageCall, pickCall, reachCall}
 use Rattle.charges.specs.Charges.{Charge, chargeCall}
 use Rattle.counts.specs.Count.{countCall}
+use Rattle.indexes.specs.Index.{fetchCall, indexCall}
 use Rattle.offices.specs.Offices.{Counts, Noted, officeCall}
 
 pub record Called (B : Type 0) : Type 0 where
@@ -110,6 +111,14 @@ plannerPick n page t out =
 -- Page: the count, and the mark, 1 for 'more'.
 unfoldable pub plannerPage : List ℕ → List ℕ → List ℕ → List ℕ → Called (Beside (List ℕ))
 plannerPage file page start answer = answeringBeside 2 pagedValues (pageCall file page start) page answer
+
+-- An index built: how many trees it holds.
+unfoldable pub plannerIndex : List ℕ → ℕ → List ℕ → List ℕ → Called (Beside (List ℕ))
+plannerIndex file spacing index answer = answeringBeside 1 (λ trees. held trees ∷ []) (indexCall file spacing index) index answer
+
+-- A tree fetched: it stands in the buffer; the moves.
+unfoldable pub plannerFetch : List ℕ → ℕ → List ℕ → ℕ → List ℕ → List ℕ → Called (Beside (List ℕ))
+plannerFetch file spacing index tree buffer answer = answeringBeside 1 (λ moves. moves ∷ []) (fetchCall file spacing index tree buffer) buffer answer
 
 -- Front: the count, and the mark, 1 for 'whole'.
 unfoldable pub plannerFront : List ℕ → List ℕ → List ℕ → List ℕ → Called (Beside FrontTables)

@@ -3,14 +3,17 @@
 use charge::Charged;
 use cost::Costed;
 use count::CountAnswer;
+use fetch::FetchAnswer;
 use fronted::FrontAnswer;
+use index::IndexAnswer;
 use network::Opened;
 use office::OfficeAnswer;
 use order::Ordered;
 use page::PageAnswer;
 use reach::ReachAnswer;
 ghost use mathlib.Core.Path.{_≡_};
-ghost use Rattle.planner_c.specs.Calls.{digit, held, plannerCharge, plannerCost, plannerCount, plannerFront, plannerOffice, plannerOpen, plannerOrder, plannerPage, plannerPick, plannerReach};
+ghost use Rattle.planner_c.specs.Calls.{digit, held, plannerCharge, plannerCost, plannerCount, plannerFetch, plannerFront};
+ghost use Rattle.planner_c.specs.Calls.{plannerIndex, plannerOffice, plannerOpen, plannerOrder, plannerPage, plannerPick, plannerReach};
 
 /// Open: 0 with n, m and k in the first three places of the answer; the refusal's number; or 255 where the answer has
 /// under three places.
@@ -180,6 +183,58 @@ pub extern "C" fn planner_page(
             0
         }
         PageAnswer::Refused(number) => number as u32,
+    }
+}
+
+/// Builds an index of every spacing-th tree: 0 with how many trees it holds in the first place of the answer; the refusal's
+/// number; or 255 where the answer has no place.
+#[no_mangle]
+pub extern "C" fn planner_index_build(
+    file: &[u8],
+    spacing: u32,
+    index: &mut [u16],
+    answer: &mut [u32],
+) -> u32
+    ensures { λ r. ⌜ record { code = r; buffers = record { lent = now (index .exit); answer = now (answer .exit) } }
+        ≡ plannerIndex (now (file .entry)) spacing (now (index .entry)) (now (answer .entry)) ⌝ }
+{
+    if answer.len() < 1 {
+        return 255;
+    }
+    let built = index::build(file, spacing, index);
+    match built {
+        IndexAnswer::Trees(trees) => {
+            answer[0] = held_count(trees);
+            0
+        }
+        IndexAnswer::Refused(number) => number as u32,
+    }
+}
+
+/// Fetches a tree of the list by its number, from 0 on: 0 with its path in the first n - 1 places of the buffer and the moves
+/// in the first place of the answer; the refusal's number; or 255 where the answer has no place.
+#[no_mangle]
+pub extern "C" fn planner_index_fetch(
+    file: &[u8],
+    spacing: u32,
+    index: &[u16],
+    tree: u64,
+    buffer: &mut [u16],
+    answer: &mut [u32],
+) -> u32
+    ensures { λ r. ⌜ record { code = r; buffers = record { lent = now (buffer .exit); answer = now (answer .exit) } }
+        ≡ plannerFetch (now (file .entry)) spacing (now (index .entry)) tree (now (buffer .entry)) (now (answer .entry)) ⌝ }
+{
+    if answer.len() < 1 {
+        return 255;
+    }
+    let fetched = fetch::fetch(file, spacing, index, tree, buffer);
+    match fetched {
+        FetchAnswer::Moves(moves) => {
+            answer[0] = moves;
+            0
+        }
+        FetchAnswer::Refused(number) => number as u32,
     }
 }
 

@@ -1,0 +1,4 @@
+pub mod Every
+pub mod Onward
+pub mod Checks
+pub mod Fetch
