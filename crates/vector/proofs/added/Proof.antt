@@ -4,6 +4,7 @@ use native.Mathlib.Omega.{arith}
 use borrow.Author.Needs.{needs}
 use Rattle.network_file.specs.File.{networkOf}
 use Rattle.paths.specs.Path.{rowsIn}
+use Rattle.steps.proofs.Laws.{counted}
 use Rattle.vector.proofs.Laws.{AddedTo, added-end, added-fits, added-turn}
 use Rattle.vector.proofs.added.Statement.{statement}
 use Rattle.vector.proofs.added.Tie as tie
@@ -14,8 +15,8 @@ Inv-loop file criterion path n sum₀ i₀ sum i = AddedTo (networkOf file) crit
 abbrev μ-loop : tie.MeasureT-loop
 μ-loop file criterion path n sum₀ i₀ sum i = n - i
 
-steps-requires : tie.Need-steps-requires Inv-loop μ-loop
-steps-requires c κs = search needs
+count-requires : tie.Need-count-requires Inv-loop μ-loop
+count-requires c κs = search needs
 
 loop-holds : tie.Need-loop-holds Inv-loop μ-loop
 loop-holds c = search needs
@@ -31,18 +32,18 @@ loop-less c = search needs
 
 loop-again : tie.Need-loop-again Inv-loop μ-loop
 loop-again c =
-    added-turn (c .before .before .before .steps .ensures) (c .before .loop-test .taken) (c .before .before .loop .inv) (c .cost-of .ensures)
+    added-turn (counted _ _ (c .before .before .before .count .ensures)) (c .before .loop-test .taken) (c .before .before .loop .inv) (c .cost-of .ensures)
 
 add-sum : tie.Need-add-sum Inv-loop μ-loop
 add-sum c =
     omega (
       arith,
       added-fits (c .before .before .before .before .before .args .file .now) (c .before .before .before .before .shared-slice-known .given)
-          (c .before .before .before .steps .ensures) (loop-again c),
+          (counted _ _ (c .before .before .before .count .ensures)) (loop-again c),
     )
 
 returns : tie.Need-returns Inv-loop μ-loop
-returns c = added-end (c .before .before .steps .ensures) (c .loop-test .left) (c .before .loop .inv)
+returns c = added-end (counted _ _ (c .before .before .count .ensures)) (c .loop-test .left) (c .before .loop .inv)
 
 pub added-spec : {M : Type 1} → statement M
 added-spec =
@@ -50,7 +51,7 @@ added-spec =
     (tie.spec
     Inv-loop
     μ-loop
-    steps-requires
+    count-requires
     loop-holds
     cost-of-requires
     add-sum

@@ -3,6 +3,7 @@ use Prim.Native.Nat.{_-_}
 use borrow.Author.Needs.{needs}
 use Rattle.network_file.specs.File.{networkOf}
 use Rattle.paths.specs.Path.{rowsIn}
+use Rattle.steps.proofs.Laws.{counted}
 use Rattle.vector.proofs.Laws.{WorstTo, worst-end, worst-turn}
 use Rattle.vector.proofs.worst.Statement.{statement}
 use Rattle.vector.proofs.worst.Tie as tie
@@ -13,8 +14,8 @@ Inv-loop file criterion path n most₀ i₀ most i = WorstTo (networkOf file) cr
 abbrev μ-loop : tie.MeasureT-loop
 μ-loop file criterion path n most₀ i₀ most i = n - i
 
-steps-requires : tie.Need-steps-requires Inv-loop μ-loop
-steps-requires c κs = search needs
+count-requires : tie.Need-count-requires Inv-loop μ-loop
+count-requires c κs = search needs
 
 loop-holds : tie.Need-loop-holds Inv-loop μ-loop
 loop-holds c = search needs
@@ -33,10 +34,11 @@ loop-less c = search needs
 
 loop-again : tie.Need-loop-again Inv-loop μ-loop
 loop-again c =
-    worst-turn (c .before .before .before .before .steps .ensures) (c .before .before .loop-test .taken) (c .before .before .before .loop .inv) (c .before .cost-of .ensures) (c .larger .ensures)
+    worst-turn (counted _ _ (c .before .before .before .before .count .ensures)) (c .before .before .loop-test .taken) (c .before .before .before .loop .inv)
+    (c .before .cost-of .ensures) (c .larger .ensures)
 
 returns : tie.Need-returns Inv-loop μ-loop
-returns c = worst-end (c .before .before .steps .ensures) (c .loop-test .left) (c .before .loop .inv)
+returns c = worst-end (counted _ _ (c .before .before .count .ensures)) (c .loop-test .left) (c .before .loop .inv)
 
 pub worst-spec : {M : Type 1} → statement M
 worst-spec =
@@ -44,7 +46,7 @@ worst-spec =
     (tie.spec
     Inv-loop
     μ-loop
-    steps-requires
+    count-requires
     loop-holds
     cost-of-requires
     larger-requires

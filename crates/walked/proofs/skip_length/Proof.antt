@@ -1,6 +1,6 @@
 -- `walked::skip_length`: a path has as many rows as steps.
 use lib.ListN.{length-map}
-use Rattle.vector.proofs.Laws.{path-counted}
+use Rattle.steps.proofs.Laws.{path-counted}
 use borrow.Author.Needs.{needs}
 use Rattle.walked.proofs.skip_length.Statement.{statement}
 use Rattle.walked.proofs.skip_length.Tie as tie

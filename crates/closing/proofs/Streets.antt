@@ -1,9 +1,9 @@
--- The closing cost counted from the last step backwards (`closing-turn`): a named street is counted at the last of its rows.
+-- One street by the steps in it (`street-turn`); and the closing cost counted from the last step backwards (`closing-turn`): a named street is counted at the last of its rows.
 use mathlib.Core.Path.{_∙_, _≡_, ap, refl, sym}
 use mathlib.Core.Logic.{⊎-elim}
 use mathlib.Core.Bool.{Bool, false, true}
 use mathlib.Core.List.{List, [], _∷_, map}
-use Prim.Native.Nat.{_*_, _+_, _-_, _<_, _≤_, suc, zero, ℕ}
+use Prim.Native.Nat.{_*_, _+_, _-_, _<_, _≤_, max, suc, zero, ℕ}
 use native.Mathlib.Decide.{ℕ-discrete}
 use native.Mathlib.Omega.{arith}
 use lib.Dec.{eqb, eqb→eq}
@@ -11,14 +11,38 @@ use lib.ListN.{drop, length}
 use mir.Syntax.{w8}
 use mir.Val.{Fits}
 use borrow.Author.Tests.{eq-eqb, ne-eqb}
-use Rattle.lists.specs.Lists.{any, either, filterB, member, pick, sum}
+use Rattle.lists.specs.Lists.{any, either, filterB, largest, member, pick, sum}
 use Rattle.lists.proofs.Tests.{T-either, T-true, pick-elim}
 use Rattle.costs.specs.Costs.{closingCost, costAt, inStreet, streetCost, streetsOf}
 use Rattle.costs.specs.Network.{Network, closing, rowAt}
 use Rattle.bounds.proofs.Limits.{by-kind}
 use Rattle.network_file.specs.File.{byteAt, networkOf}
-use Rattle.vector.specs.Vector.{Counted, closingAt, closingStep, liesIn, stepRow}
-use Rattle.vector.proofs.Laws.{cost-word, next, past}
+use Rattle.steps.specs.Steps.{Counted, stepRow}
+use Rattle.steps.proofs.Laws.{cost-word, next, past}
+use Rattle.closing.specs.Closing.{closingAt, closingStep, liesIn}
+
+-- One street, in a loop that has come to step i with `so`, the largest so far; x is the cost of the row at step i, `now` what comes next
+
+pub record StreetTo (g : Network) (c s : ℕ) (rows : List ℕ) (i so : ℕ) : Type 0 where
+  pub comes : streetCost g c rows s ≡ max so (streetCost g c (drop i rows) s)
+
+module _ {g : Network} {c : ℕ} {rows : List ℕ} {n i so : ℕ} (counted : Counted rows n) {s : ℕ} where
+  pub street-turn : {x now : ℕ} → i < n → StreetTo g c s rows i so → rowAt g (stepRow rows i) .street ≡ s → x ≡ costAt g c (stepRow rows i)
+      → now ≡ max so x → StreetTo g c s rows (i + 1) now
+  unfolding largest filterB
+  street-turn h inv on e larger =
+      record { comes = omega (arith, rw (eq-eqb _ _ on) at (ap (λ (l : List ℕ). streetCost g c l s) (next counted i h))) }
+
+  pub street-skip : i < n → StreetTo g c s rows i so → (rowAt g (stepRow rows i) .street ≡ s → ⊥) → StreetTo g c s rows (i + 1) so
+  unfolding filterB
+  street-skip h inv off =
+      record { comes = omega (arith, rw (ne-eqb _ _ off) at (ap (λ (l : List ℕ). streetCost g c l s) (next counted i h))) }
+
+  pub street-end : n ≤ i → StreetTo g c s rows i so → so ≡ streetCost g c rows s
+  unfolding largest filterB
+  street-end h inv = omega (arith, ap (λ (l : List ℕ). streetCost g c l s) (past counted i h))
+
+-- All streets
 
 -- one street more, unless it is 0 or there already
 street-kept : (s t : ℕ) (S : List ℕ) → (s ≡ 0 → ⊥) → member s (pick (either (eqb t 0) (member t S)) S (t ∷ S)) ≡ either (eqb t s) (member s S)

@@ -4,9 +4,10 @@ use Prim.Native.Nat.{_-_}
 use borrow.Author.Needs.{needs}
 use Rattle.network_file.specs.File.{networkOf}
 use Rattle.paths.specs.Path.{rowsIn}
-use Rattle.vector.proofs.Laws.{StreetTo, street-end, street-skip, street-turn}
-use Rattle.vector.proofs.street_cost.Statement.{statement}
-use Rattle.vector.proofs.street_cost.Tie as tie
+use Rattle.steps.proofs.Laws.{counted}
+use Rattle.closing.proofs.Streets.{StreetTo, street-end, street-skip, street-turn}
+use Rattle.closing.proofs.street_cost.Statement.{statement}
+use Rattle.closing.proofs.street_cost.Tie as tie
 
 abbrev Inv-loop : tie.InvT-loop
 Inv-loop file criterion path street n most₀ i₀ most i = StreetTo (networkOf file) criterion street (rowsIn path) i most
@@ -14,8 +15,8 @@ Inv-loop file criterion path street n most₀ i₀ most i = StreetTo (networkOf 
 abbrev μ-loop : tie.MeasureT-loop
 μ-loop file criterion path street n most₀ i₀ most i = n - i
 
-steps-requires : tie.Need-steps-requires Inv-loop μ-loop
-steps-requires c κs = search needs
+count-requires : tie.Need-count-requires Inv-loop μ-loop
+count-requires c κs = search needs
 
 loop-holds : tie.Need-loop-holds Inv-loop μ-loop
 loop-holds c = search needs
@@ -37,7 +38,8 @@ loop-less c = search needs
 
 loop-again : tie.Need-loop-again Inv-loop μ-loop
 loop-again c =
-    street-turn (c .before .before .before .before .before .before .steps .ensures) (c .before .before .before .before .loop-test .taken) (c .before .before .before .before .before .loop .inv)
+    street-turn (counted _ _ (c .before .before .before .before .before .before .count .ensures))
+    (c .before .before .before .before .loop-test .taken) (c .before .before .before .before .before .loop .inv)
     (sym (c .before .before .before .street-of .ensures) ∙ c .before .before .if1 .taken) (c .before .cost-of .ensures) (c .larger .ensures)
 
 loop-less-2 : tie.Need-loop-less-2 Inv-loop μ-loop
@@ -45,11 +47,11 @@ loop-less-2 c = search needs
 
 loop-again-2 : tie.Need-loop-again-2 Inv-loop μ-loop
 loop-again-2 c =
-    street-skip (c .before .before .before .before .steps .ensures) (c .before .before .loop-test .taken) (c .before .before .before .loop .inv)
+    street-skip (counted _ _ (c .before .before .before .before .count .ensures)) (c .before .before .loop-test .taken) (c .before .before .before .loop .inv)
     (λ e. c .if1 .left (c .before .street-of .ensures ∙ e))
 
 returns : tie.Need-returns Inv-loop μ-loop
-returns c = street-end (c .before .before .steps .ensures) (c .loop-test .left) (c .before .loop .inv)
+returns c = street-end (counted _ _ (c .before .before .count .ensures)) (c .loop-test .left) (c .before .loop .inv)
 
 pub street-cost-spec : {M : Type 1} → statement M
 street-cost-spec =
@@ -57,7 +59,7 @@ street-cost-spec =
     (tie.spec
     Inv-loop
     μ-loop
-    steps-requires
+    count-requires
     loop-holds
     street-of-requires
     add-i

@@ -4,8 +4,8 @@ use lib.ListN.{List·getD-map}
 use borrow.Author.Needs.{needs}
 use Rattle.graph.specs.Paths.{Key}
 use Rattle.paths.specs.Path.{keysOf, noKey}
-use Rattle.vector.proofs.row_of.Statement.{statement}
-use Rattle.vector.proofs.row_of.Tie as tie
+use Rattle.steps.proofs.row_of.Statement.{statement}
+use Rattle.steps.proofs.row_of.Tie as tie
 
 row-at-requires : tie.Need-row-at-requires
 row-at-requires c κs = search needs

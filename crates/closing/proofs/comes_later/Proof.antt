@@ -8,9 +8,9 @@ use Rattle.lists.specs.Lists.{any}
 use Rattle.lists.proofs.Drops.{any-end, any-next, any-stop}
 use Rattle.network_file.specs.File.{networkOf}
 use Rattle.paths.specs.Path.{rowsIn}
-use Rattle.vector.specs.Vector.{liesIn}
-use Rattle.vector.proofs.comes_later.Statement.{statement}
-use Rattle.vector.proofs.comes_later.Tie as tie
+use Rattle.closing.specs.Closing.{liesIn}
+use Rattle.closing.proofs.comes_later.Statement.{statement}
+use Rattle.closing.proofs.comes_later.Tie as tie
 
 abbrev Inv-loop : tie.InvT-loop
 Inv-loop file path i street n j₀ j =
@@ -19,8 +19,8 @@ Inv-loop file path i street n j₀ j =
 abbrev μ-loop : tie.MeasureT-loop
 μ-loop file path i street n j₀ j = n - j
 
-steps-requires : tie.Need-steps-requires Inv-loop μ-loop
-steps-requires c κs = search needs
+count-requires : tie.Need-count-requires Inv-loop μ-loop
+count-requires c κs = search needs
 
 loop-holds : tie.Need-loop-holds Inv-loop μ-loop
 loop-holds c = search needs
@@ -30,7 +30,7 @@ street-of-requires c κs = search needs
 
 returns : tie.Need-returns Inv-loop μ-loop
 returns c =
-    sym (c .before .before .before .loop .inv ∙ any-stop _ _ _ (rw (c .before .before .before .before .steps .ensures .whole) at (c .before .before .loop-test .taken))
+    sym (c .before .before .before .loop .inv ∙ any-stop _ _ _ (rw (c .before .before .before .before .count .ensures .0) at (c .before .before .loop-test .taken))
     (eq-eqb _ _ (sym (c .before .street-of .ensures) ∙ c .if1 .taken)))
 
 add-j : tie.Need-add-j Inv-loop μ-loop
@@ -41,11 +41,11 @@ loop-less c = search needs
 
 loop-again : tie.Need-loop-again Inv-loop μ-loop
 loop-again c =
-    c .before .before .before .loop .inv ∙ any-next _ _ _ (rw (c .before .before .before .before .steps .ensures .whole) at (c .before .before .loop-test .taken))
+    c .before .before .before .loop .inv ∙ any-next _ _ _ (rw (c .before .before .before .before .count .ensures .0) at (c .before .before .loop-test .taken))
     (ne-eqb _ _ (λ e. c .if1 .left (c .before .street-of .ensures ∙ e)))
 
 returns-2 : tie.Need-returns-2 Inv-loop μ-loop
-returns-2 c = sym (c .before .loop .inv ∙ any-end _ _ _ (rw (c .before .before .steps .ensures .whole) at (c .loop-test .left)))
+returns-2 c = sym (c .before .loop .inv ∙ any-end _ _ _ (rw (c .before .before .count .ensures .0) at (c .loop-test .left)))
 
 pub comes-later-spec : {M : Type 1} → statement M
 comes-later-spec =
@@ -53,7 +53,7 @@ comes-later-spec =
     (tie.spec
     Inv-loop
     μ-loop
-    steps-requires
+    count-requires
     loop-holds
     street-of-requires
     returns

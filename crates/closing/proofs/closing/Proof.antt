@@ -3,9 +3,10 @@ use native.Mathlib.Omega.{arith}
 use borrow.Author.Needs.{needs}
 use Rattle.network_file.specs.File.{networkOf}
 use Rattle.paths.specs.Path.{rowsIn}
-use Rattle.vector.proofs.Streets.{ClosingTo, closing-end, closing-fits, closing-start, closing-turn}
-use Rattle.vector.proofs.closing.Statement.{statement}
-use Rattle.vector.proofs.closing.Tie as tie
+use Rattle.steps.proofs.Laws.{counted}
+use Rattle.closing.proofs.Streets.{ClosingTo, closing-end, closing-fits, closing-start, closing-turn}
+use Rattle.closing.proofs.closing.Statement.{statement}
+use Rattle.closing.proofs.closing.Tie as tie
 
 abbrev Inv-loop : tie.InvT-loop
 Inv-loop file criterion path sum₀ i₀ sum i = ClosingTo (networkOf file) criterion (rowsIn path) i sum
@@ -13,11 +14,11 @@ Inv-loop file criterion path sum₀ i₀ sum i = ClosingTo (networkOf file) crit
 abbrev μ-loop : tie.MeasureT-loop
 μ-loop file criterion path sum₀ i₀ sum i = i
 
-steps-requires : tie.Need-steps-requires Inv-loop μ-loop
-steps-requires c κs = search needs
+count-requires : tie.Need-count-requires Inv-loop μ-loop
+count-requires c κs = search needs
 
 loop-holds : tie.Need-loop-holds Inv-loop μ-loop
-loop-holds c = closing-start (c .steps .ensures)
+loop-holds c = closing-start (counted _ _ (c .count .ensures))
 
 sub-i : tie.Need-sub-i Inv-loop μ-loop
 sub-i c = search needs
@@ -30,14 +31,14 @@ loop-less c = search needs
 
 loop-again : tie.Need-loop-again Inv-loop μ-loop
 loop-again c =
-    closing-turn (c .before .before .before .steps .ensures) (c .before .loop-test .taken) (c .before .before .loop .inv) (c .closing-at .ensures)
+    closing-turn (counted _ _ (c .before .before .before .count .ensures)) (c .before .loop-test .taken) (c .before .before .loop .inv) (c .closing-at .ensures)
 
 add-sum : tie.Need-add-sum Inv-loop μ-loop
 add-sum c =
     omega (
       arith,
       closing-fits (c .before .before .before .before .before .args .file .now) (c .before .before .before .before .shared-slice-known .given)
-          (c .before .before .before .steps .ensures) (loop-again c),
+          (counted _ _ (c .before .before .before .count .ensures)) (loop-again c),
     )
 
 returns : tie.Need-returns Inv-loop μ-loop
@@ -49,7 +50,7 @@ closing-spec =
     (tie.spec
     Inv-loop
     μ-loop
-    steps-requires
+    count-requires
     loop-holds
     sub-i
     closing-at-requires

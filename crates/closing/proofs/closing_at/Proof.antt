@@ -7,10 +7,10 @@ use borrow.Author.Needs.{needs}
 use Rattle.lists.specs.Lists.{any}
 use Rattle.network_file.specs.File.{networkOf}
 use Rattle.paths.specs.Path.{rowsIn}
-use Rattle.vector.specs.Vector.{liesIn}
-use Rattle.vector.proofs.Streets.{closing-last, closing-later, closing-off}
-use Rattle.vector.proofs.closing_at.Statement.{statement}
-use Rattle.vector.proofs.closing_at.Tie as tie
+use Rattle.closing.specs.Closing.{liesIn}
+use Rattle.closing.proofs.Streets.{closing-last, closing-later, closing-off}
+use Rattle.closing.proofs.closing_at.Statement.{statement}
+use Rattle.closing.proofs.closing_at.Tie as tie
 
 street-of-requires : tie.Need-street-of-requires
 street-of-requires c κs = search needs

@@ -1,7 +1,7 @@
 -- The cost of the row that was read.
 use borrow.Author.Needs.{needs}
-use Rattle.vector.proofs.cost_of.Statement.{statement}
-use Rattle.vector.proofs.cost_of.Tie as tie
+use Rattle.steps.proofs.cost_of.Statement.{statement}
+use Rattle.steps.proofs.cost_of.Tie as tie
 
 row-of-requires : tie.Need-row-of-requires
 row-of-requires c κs = search needs
