@@ -1,2 +1,3 @@
 pub mod Accepted
 pub mod Opened
+pub mod Bytes
