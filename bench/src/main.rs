@@ -1,8 +1,9 @@
 //! Measures the proved library beside plain Rust, both built for release, in one run, and prints tables; with the argument
-//! 'front' the fronts in seconds only, with 'count' the counts, with 'index' the indexes. It tests nothing but that both list the
-//! same trees, have the same fronts, count alike, and build and fetch the same.
+//! 'front' the fronts in seconds only, with 'count' the counts, with 'index' the indexes, with 'dimacs' the edge files. It tests
+//! nothing but that both list the same trees, have the same fronts, count alike, and build, fetch, read and write the same.
 
 mod count;
+mod dimacs;
 mod index;
 mod limited;
 mod networks;
@@ -204,6 +205,8 @@ fn main() {
             println!();
             index::tables();
             println!();
+            dimacs::table();
+            println!();
             seconds::table();
             println!();
             count::table();
@@ -212,9 +215,10 @@ fn main() {
         ["front", line, way] => seconds::measure(line, way),
         ["count"] => count::table(),
         ["index"] => index::tables(),
+        ["dimacs"] => dimacs::table(),
         ["count", line, network, way] => count::measure(line, network, way),
         _ => {
-            eprintln!("usage: bench/run [front | count | index]");
+            eprintln!("usage: bench/run [front | count | index | dimacs]");
             std::process::exit(2);
         }
     }

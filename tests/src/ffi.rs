@@ -112,6 +112,24 @@ extern "C" {
         answer: *mut u32,
         answer_len: usize,
     ) -> u32;
+
+    fn planner_dimacs_read(
+        text: *const u8,
+        text_len: usize,
+        buffer: *mut u8,
+        buffer_len: usize,
+        answer: *mut u32,
+        answer_len: usize,
+    ) -> u32;
+
+    fn planner_dimacs_write(
+        file: *const u8,
+        file_len: usize,
+        buffer: *mut u8,
+        buffer_len: usize,
+        answer: *mut u32,
+        answer_len: usize,
+    ) -> u32;
 }
 
 /// Open: 0 with n, m, k in the first three places of the answer, or the refusal's number.
@@ -285,6 +303,36 @@ pub fn office(
             witnesses.len(),
             filled1,
             filled2,
+            answer.as_mut_ptr(),
+            answer.len(),
+        )
+    }
+}
+
+/// A DIMACS edge file read: 0 with the network file in the buffer's first bytes and its length in the first place of the answer,
+/// or the refusal's number.
+pub fn dimacs_read(text: &[u8], buffer: &mut [u8], answer: &mut [u32]) -> u32 {
+    unsafe {
+        planner_dimacs_read(
+            text.as_ptr(),
+            text.len(),
+            buffer.as_mut_ptr(),
+            buffer.len(),
+            answer.as_mut_ptr(),
+            answer.len(),
+        )
+    }
+}
+
+/// A network's ends written as a DIMACS edge file: 0 with the text in the buffer's first bytes and its length in the first place of
+/// the answer, or the refusal's number.
+pub fn dimacs_write(file: &[u8], buffer: &mut [u8], answer: &mut [u32]) -> u32 {
+    unsafe {
+        planner_dimacs_write(
+            file.as_ptr(),
+            file.len(),
+            buffer.as_mut_ptr(),
+            buffer.len(),
             answer.as_mut_ptr(),
             answer.len(),
         )

@@ -44,6 +44,8 @@ fn the_first_table_has_every_operation() {
         "fetch::fetch",
         "front::front",
         "office::office",
+        "edge_read::read",
+        "edge_write::write",
     ];
     assert_eq!(listed, operations);
     let said = text(&crates().join("demands/specs/Demands.antt"));

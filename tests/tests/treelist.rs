@@ -1,33 +1,20 @@
 //! treelist, as `rt check` builds it, run as a program: what it prints is compared byte for byte with an independent
 //! printing of document 01's printout.
 
-use std::io::Write;
-use std::process::{Command, Stdio};
-
 use planner_tests::costs;
 use planner_tests::draw;
 use planner_tests::file::{network_a, Network, Row, BARRED, MUST, OPEN};
 use planner_tests::operations::Listed;
+use planner_tests::program;
 use planner_tests::rng::Rng;
 
 const MOST_BYTES: usize = 65_536;
 const FRONT_ROWS: usize = 512;
 
 fn run(input: &[u8]) -> String {
-    let program = concat!(env!("CARGO_MANIFEST_DIR"), "/../target/bin/treelist");
-    let mut child = Command::new(program)
-        .stdin(Stdio::piped())
-        .stdout(Stdio::piped())
-        .spawn()
-        .expect("target/bin/treelist: 'rt check treelist' builds it");
-    let mut stdin = child.stdin.take().unwrap();
-    let bytes = input.to_vec();
-    // Of a longer input the program reads only the first bytes, and may end before the rest is written.
-    let writer = std::thread::spawn(move || drop(stdin.write_all(&bytes)));
-    let output = child.wait_with_output().unwrap();
-    writer.join().unwrap();
-    assert!(output.status.success());
-    String::from_utf8(output.stdout).unwrap()
+    let written = program::run("treelist", input);
+    assert_eq!(written.err, "");
+    String::from_utf8(written.out).unwrap()
 }
 
 fn numbers<T: ToString>(list: &[T]) -> String {

@@ -15,6 +15,8 @@ use Rattle.operations.proofs.Runs.{claim}
 use Rattle.charges.specs.Charges.{chargeCall, chargeChecks}
 use Rattle.counts.specs.Count.{countCall, countChecks}
 use Rattle.indexes.specs.Index.{entryChecks, fetchCall, fetchChecks, indexCall, indexChecks}
+use Rattle.edge_file.specs.Dimacs.{dimacsCall, edgesCall, edgesChecks, textCall, textChecks}
+use Rattle.edge_file.specs.Text.{edgesOf}
 use Rattle.offices.specs.Offices.{Counts, officeCall, officeChecks}
 use Rattle.offices.proofs.Calls.{other-kept}
 use Rattle.offices.proofs.Offices.{offices}
@@ -36,11 +38,11 @@ page-others : (f page start : List ℕ) → member 12 (numbers (check 11 (leb (w
 page-others f page start = ap (λ (l : List ℕ). member 12 (11 ∷ l)) (start-order (networkOf f) start) ∙ start-others start
 
 pub demand-1 : (f rows : List ℕ) (criterion : ℕ) (buffer page start : List ℕ) (spacing : ℕ) (index : List ℕ) (tree : ℕ) (costs witnesses : List ℕ) (office h : ℕ) (counts : Counts)
-    → Demand1 f rows criterion buffer page start spacing index tree costs witnesses office h counts
-unfolding openOf reachCall countCall orderCall costCall chargeCall pageCall indexCall fetchCall frontCall officeCall
-    fileChecks countChecks orderChecks costChecks chargeChecks pageChecks indexChecks fetchChecks frontChecks officeChecks drawnChecks treeChecks entryChecks
+    (text : List ℕ) → Demand1 f rows criterion buffer page start spacing index tree costs witnesses office h counts text
+unfolding openOf reachCall countCall orderCall costCall chargeCall pageCall indexCall fetchCall frontCall officeCall dimacsCall edgesCall textCall
+    fileChecks countChecks orderChecks costChecks chargeChecks pageChecks indexChecks fetchChecks frontChecks officeChecks edgesChecks textChecks drawnChecks treeChecks entryChecks
     member any
-demand-1 f rows criterion buffer page start spacing index tree costs witnesses office h counts = record {
+demand-1 f rows criterion buffer page start spacing index tree costs witnesses office h counts text = record {
   opens = refuses-checked (fileChecks f) _;
   reaches = refuses-checked (fileChecks f) _;
   tallies = refuses-checked (countChecks f) _;
@@ -52,6 +54,8 @@ demand-1 f rows criterion buffer page start spacing index tree costs witnesses o
   fetches = refuses-ended (fetchChecks f spacing index tree buffer) _ buffer _;
   fronts = refuses-ended (frontChecks f costs witnesses) _ (record { costs = costs; witnesses = witnesses }) _;
   notes = refuses-ended (officeChecks f rows office h counts (record { costs = costs; witnesses = witnesses })) _ (record { costs = costs; witnesses = witnesses }) _;
+  reads = refuses-ended (edgesChecks (edgesOf text) buffer) _ buffer _;
+  writes = refuses-ended (textChecks f buffer) _ buffer _;
   pages-none = twelve f (fileChecks f) _ (λ ok. ok) refl (page-others f page start) _ page _;
   fronts-none = twelve f (fileChecks f) _ (λ ok. ok) refl (start-others []) _ (record { costs = costs; witnesses = witnesses }) _;
   indexes-none = index-none f spacing index;
@@ -64,6 +68,8 @@ demand-1 f rows criterion buffer page start spacing index tree costs witnesses o
   index-order = refl;
   fetch-order = refl;
   front-order = refl;
+  read-order = refl;
+  write-order = refl;
   office-order = refl;
 }
 

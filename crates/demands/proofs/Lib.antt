@@ -5,4 +5,5 @@ pub mod Indexes
 pub mod Pages
 pub mod Refusals
 pub mod Shuffles
+pub mod Texts
 pub mod Trees

@@ -1,40 +1,44 @@
 -- The three demands on the library, said over the definitions that the contracts cite; `demand-1`, `demand-2` and `demand-3` of proofs/Demands.antt are
--- their proofs. Beside them Shuffles.antt says what two files have in common whose rows stand in another sequence.
+-- their proofs. Beside them Shuffles.antt says what two files have in common whose rows stand in another sequence, and Texts.antt what a DIMACS edge file and a network file have.
 --
 -- On every input an operation equals its definition: that is its contract. The demands speak of the definitions. (tests/tests/contracts.rs holds both
 -- tables to the contracts in src/.)
 --
--- | function       | definition                      | demands |
--- |----------------|---------------------------------|---------|
--- | network::open  | network_file File openOf        | 1       |
--- | reach::reach   | operations Operations reachCall | 1, 2    |
--- | count::count   | counts Count countCall          | 1, 2    |
--- | order::order   | operations Operations orderCall | 1, 2    |
--- | cost::cost     | operations Operations costCall  | 1, 2    |
--- | charge::charge | charges Charges chargeCall      | 1, 2    |
--- | page::page     | operations Operations pageCall  | 1, 3    |
--- | pick::pick     | operations Operations pickCall  | 3       |
--- | index::build   | indexes Index indexCall         | 1, 3    |
--- | fetch::fetch   | indexes Index fetchCall         | 1, 3    |
--- | front::front   | operations Operations frontCall | 1, 3    |
--- | office::office | offices Offices officeCall      | 1, 2, 3 |
+-- | function          | definition                      | demands |
+-- |-------------------|---------------------------------|---------|
+-- | network::open     | network_file File openOf        | 1       |
+-- | reach::reach      | operations Operations reachCall | 1, 2    |
+-- | count::count      | counts Count countCall          | 1, 2    |
+-- | order::order      | operations Operations orderCall | 1, 2    |
+-- | cost::cost        | operations Operations costCall  | 1, 2    |
+-- | charge::charge    | charges Charges chargeCall      | 1, 2    |
+-- | page::page        | operations Operations pageCall  | 1, 3    |
+-- | pick::pick        | operations Operations pickCall  | 3       |
+-- | index::build      | indexes Index indexCall         | 1, 3    |
+-- | fetch::fetch      | indexes Index fetchCall         | 1, 3    |
+-- | front::front      | operations Operations frontCall | 1, 3    |
+-- | office::office    | offices Offices officeCall      | 1, 2, 3 |
+-- | edge_read::read   | edge_file Dimacs dimacsCall     | 1       |
+-- | edge_write::write | edge_file Dimacs textCall       | 1       |
 --
 -- The functions for Rust and C, each with the definition that it hands on:
 --
--- | function                       | definition                    | hands on   |
--- |--------------------------------|-------------------------------|------------|
--- | planner_c::planner_open        | planner_c Calls plannerOpen   | openOf     |
--- | planner_c::planner_reach       | planner_c Calls plannerReach  | reachCall  |
--- | planner_c::planner_count       | planner_c Calls plannerCount  | countCall  |
--- | planner_c::planner_order       | planner_c Calls plannerOrder  | orderCall  |
--- | planner_c::planner_cost        | planner_c Calls plannerCost   | costCall   |
--- | planner_c::planner_charge      | planner_c Calls plannerCharge | chargeCall |
--- | planner_c::planner_page        | planner_c Calls plannerPage   | pageCall   |
--- | planner_c::planner_pick        | planner_c Calls plannerPick   | pickCall   |
--- | planner_c::planner_index_build | planner_c Calls plannerIndex  | indexCall  |
--- | planner_c::planner_index_fetch | planner_c Calls plannerFetch  | fetchCall  |
--- | planner_c::planner_front       | planner_c Calls plannerFront  | frontCall  |
--- | planner_c::planner_office      | planner_c Calls plannerOffice | officeCall |
+-- | function                        | definition                         | hands on   |
+-- |---------------------------------|------------------------------------|------------|
+-- | planner_c::planner_open         | planner_c Calls plannerOpen        | openOf     |
+-- | planner_c::planner_reach        | planner_c Calls plannerReach       | reachCall  |
+-- | planner_c::planner_count        | planner_c Calls plannerCount       | countCall  |
+-- | planner_c::planner_order        | planner_c Calls plannerOrder       | orderCall  |
+-- | planner_c::planner_cost         | planner_c Calls plannerCost        | costCall   |
+-- | planner_c::planner_charge       | planner_c Calls plannerCharge      | chargeCall |
+-- | planner_c::planner_page         | planner_c Calls plannerPage        | pageCall   |
+-- | planner_c::planner_pick         | planner_c Calls plannerPick        | pickCall   |
+-- | planner_c::planner_index_build  | planner_c Calls plannerIndex       | indexCall  |
+-- | planner_c::planner_index_fetch  | planner_c Calls plannerFetch       | fetchCall  |
+-- | planner_c::planner_front        | planner_c Calls plannerFront       | frontCall  |
+-- | planner_c::planner_office       | planner_c Calls plannerOffice      | officeCall |
+-- | planner_c::planner_dimacs_read  | planner_c Calls plannerDimacsRead  | dimacsCall |
+-- | planner_c::planner_dimacs_write | planner_c Calls plannerDimacsWrite | textCall   |
 use mathlib.Core.Path.{_≡_}
 use mathlib.Core.Bool.{false}
 use mathlib.Core.Logic.{_↔_}
@@ -62,6 +66,8 @@ use Rattle.charges.specs.Charges.{Charge, Split, addedAt, chargeCall, chargeChe
 use Rattle.counts.specs.Count.{countCall, countChecks}
 use Rattle.counts.specs.Trees.{treeCount}
 use Rattle.indexes.specs.Index.{entryAt, fetchCall, fetchChecks, indexCall, indexChecks}
+use Rattle.edge_file.specs.Dimacs.{dimacsCall, edgesChecks, textCall, textChecks}
+use Rattle.edge_file.specs.Text.{edgesOf}
 use Rattle.operations.proofs.Runs.{Claim}
 use Rattle.table.specs.Enter.{Row}
 use Rattle.offices.specs.Offices.{Counts, Half, fitsIn, halfOf, halfRows, noteOf, officeCall, officeChecks, partOf, rowsAfter, tablesFit, written}
@@ -100,7 +106,8 @@ startNumbers [] = []
 startNumbers (r ∷ rs) = 8 ∷ 9 ∷ 10 ∷ 15 ∷ 13 ∷ []
 
 -- Open, Reach and Count are lent nothing to write in
-pub record Demand1 (f rows : List ℕ) (criterion : ℕ) (buffer page start : List ℕ) (spacing : ℕ) (index : List ℕ) (tree : ℕ) (costs witnesses : List ℕ) (office h : ℕ) (counts : Counts) : Type 0 where
+pub record Demand1 (f rows : List ℕ) (criterion : ℕ) (buffer page start : List ℕ) (spacing : ℕ) (index : List ℕ) (tree : ℕ) (costs witnesses : List ℕ) (office h : ℕ) (counts : Counts)
+    (text : List ℕ) : Type 0 where
   pub opens : (e : ℕ) → (openOf f ≡ refused e) ↔ StopsAt (fileChecks f) e
   pub reaches : (e : ℕ) → (reachCall f ≡ refused e) ↔ StopsAt (fileChecks f) e
   pub tallies : (e : ℕ) → (countCall f ≡ refused e) ↔ StopsAt (countChecks f) e
@@ -112,12 +119,15 @@ pub record Demand1 (f rows : List ℕ) (criterion : ℕ) (buffer page start : Li
   pub fetches : Refuses (fetchChecks f spacing index tree buffer) (fetchCall f spacing index tree buffer) buffer
   pub fronts : Refuses (frontChecks f costs witnesses) (frontCall f costs witnesses) (record { costs = costs; witnesses = witnesses })
   pub notes : let lent : FrontTables = record { costs = costs; witnesses = witnesses } in Refuses (officeChecks f rows office h counts lent) (officeCall f rows office h counts lent) lent
+  -- reading a text is refused by its own checks, and writing one by the file's
+  pub reads : Refuses (edgesChecks (edgesOf text) buffer) (dimacsCall text buffer) buffer
+  pub writes : Refuses (textChecks f buffer) (textCall f buffer) buffer
   -- 12 exactly if there is no tree
   pub pages-none : (pageCall f page start .outcome ≡ refused 12) ↔ NoTree f
   pub fronts-none : (frontCall f costs witnesses .outcome ≡ refused 12) ↔ NoTree f
   -- and the spacing is in range, which is asked before
   pub indexes-none : (indexCall f spacing index .outcome ≡ refused 12) ↔ (T (within 1 1000 spacing) × NoTree f)
-  -- document 01's order, with 14, 15, 22, 24, 25 and 26 of document 02
+  -- document 01's order, with 14 to 17, 22, 24, 25 and 26 of document 02
   pub file-order : numbers (fileChecks f) ≡ fileNumbers
   pub count-order : numbers (countChecks f) ≡ fileNumbers ++ (25 ∷ [])
   pub order-order : numbers (orderChecks f rows buffer) ≡ fileNumbers ++ (8 ∷ 9 ∷ 10 ∷ 15 ∷ 11 ∷ [])
@@ -127,6 +137,8 @@ pub record Demand1 (f rows : List ℕ) (criterion : ℕ) (buffer page start : Li
   pub index-order : numbers (indexChecks f spacing index) ≡ fileNumbers ++ (26 ∷ 12 ∷ 11 ∷ [])
   pub fetch-order : numbers (fetchChecks f spacing index tree buffer) ≡ fileNumbers ++ (26 ∷ 11 ∷ 26 ∷ 9 ∷ 10 ∷ 15 ∷ 13 ∷ 26 ∷ [])
   pub front-order : numbers (frontChecks f costs witnesses) ≡ fileNumbers ++ (12 ∷ 11 ∷ [])
+  pub read-order : numbers (edgesChecks (edgesOf text) buffer) ≡ 16 ∷ 17 ∷ 3 ∷ 6 ∷ 11 ∷ []
+  pub write-order : numbers (textChecks f buffer) ≡ fileNumbers ++ (11 ∷ [])
   pub office-order : numbers (officeChecks f rows office h counts (record { costs = costs; witnesses = witnesses })) ≡ fileNumbers ++ (8 ∷ 9 ∷ 10 ∷ 15 ∷ 11 ∷ 24 ∷ [])
 
 -- Demand 2, of a file that passes: each listed layout is a tree of the network, written as its minimal path; each drawn tree is turned into the one

@@ -1,12 +1,13 @@
 -- Document 01's starred trials, as questions to the definitions of the operations, each with its answer, on network A's file; and trials
 -- of document 02's row states (#102) and first witness (#101) on files with the same ends, of streets closed once (#103) on network C's, of
--- comparison by cases (#105), of the connection charge (#109), of two offices in one table (#111), of the count (#112), of shuffled rows (#113), and of
--- trees by number (#114).
+-- comparison by cases (#105), of the connection charge (#109), of two offices in one table (#111), of the count (#112), of shuffled rows (#113), of
+-- trees by number (#114), and of DIMACS edge files (#104).
 use mathlib.Core.Path.{_≡_}
 use mathlib.Core.Bool.{Bool, false, true}
-use mathlib.Core.List.{List, [], _∷_, map}
+use mathlib.Core.List.{List, [], _++_, _∷_, map}
+use mathlib.Core.Option.{Option, none, some}
 use Prim.Native.Nat.{_-_, suc, ℕ}
-use lib.ListN.{length}
+use lib.ListN.{drop, length, take}
 use Rattle.lists.specs.Lists.{range}
 use Rattle.checks.specs.Checks.{Ended, Outcome, answered, refused}
 use Rattle.costs.specs.Cases.{Case, caseAfter, soFarBetter, soFarEqual, worseSomewhere}
@@ -17,6 +18,8 @@ use Rattle.operations.specs.Operations.{FrontTables, Fronted, Paged, Reached, c
 use Rattle.charges.specs.Charges.{Charge, chargeCall, chargeOf, chargesBy}
 use Rattle.counts.specs.Count.{countCall}
 use Rattle.indexes.specs.Index.{fetchCall, indexCall}
+use Rattle.edge_file.specs.Dimacs.{dimacsCall, textCall}
+use Rattle.edge_file.specs.Text.{Edges, Ends, edgesOf}
 use Rattle.offices.specs.Offices.{Counts, Noted, officeCall}
 use Rattle.shuffles.specs.Shuffles.{partParallel, renamedPath}
 use Rattle.examples.specs.Examples.{A, B, C}
@@ -104,6 +107,10 @@ pub data Trial : Type 0 where
   -- an index of this spacing, built in this buffer; and a tree fetched with one, by its number, into a buffer of three places
   index : List ℕ → ℕ → List ℕ → Ended ℕ (List ℕ) → Trial
   fetch : List ℕ → ℕ → List ℕ → ℕ → Ended ℕ (List ℕ) → Trial
+  -- what a DIMACS text says, if it is one; a text read into this buffer; and a file written as text into it
+  says : List ℕ → Option Edges → Trial
+  reading : List ℕ → List ℕ → Ended ℕ (List ℕ) → Trial
+  writing : List ℕ → List ℕ → Ended ℕ (List ℕ) → Trial
   -- Front with tables of three places each, which hold one row
   frontIn : List ℕ → Ended Fronted FrontTables → Trial
   -- and of two vectors: dominance, and the cases after each number of components
@@ -131,6 +138,9 @@ Right (office f rows number h counts lent e) = officeCall f rows number h counts
 Right (page f start e) = pageCall f buffer start ≡ e
 Right (index f s places e) = indexCall f s places ≡ e
 Right (fetch f s places t e) = fetchCall f s places t buffer ≡ e
+Right (says text o) = edgesOf text ≡ o
+Right (reading text buffer e) = dimacsCall text buffer ≡ e
+Right (writing f buffer e) = textCall f buffer ≡ e
 Right (frontIn f e) = frontCall f buffer buffer ≡ e
 Right (dominance v w b) = dominates v w ≡ b
 Right (cases v w l) = map (λ i. caseAfter i v w) (range 0 (suc (length v))) ≡ l
@@ -180,6 +190,29 @@ tells n after = record { outcome = answered n; buffers = after }
 -- trees 0, 2 and 4 of network A
 abbrev everySecond : List ℕ
 everySecond = 0 ∷ 2 ∷ 1 ∷ 2 ∷ 2 ∷ 3 ∷ []
+
+-- DIMACS lines of numbers with one digit
+abbrev word : List ℕ
+word = 112 ∷ 32 ∷ 101 ∷ 100 ∷ 103 ∷ 101 ∷ 32 ∷ []
+
+abbrev problem : ℕ → ℕ → List ℕ
+problem n m = word ++ (n ∷ 32 ∷ m ∷ 10 ∷ [])
+
+abbrev edge : ℕ → ℕ → List ℕ
+edge u v = 101 ∷ 32 ∷ u ∷ 32 ∷ v ∷ 10 ∷ []
+
+-- 2 to the power 64, and 2 more
+abbrev large : List ℕ
+large = word ++ (49 ∷ 56 ∷ 52 ∷ 52 ∷ 54 ∷ 55 ∷ 52 ∷ 52 ∷ 48 ∷ 55 ∷ 51 ∷ 55 ∷ 48 ∷ 57 ∷ 53 ∷ 53 ∷ 49 ∷ 54 ∷ 49 ∷ 56 ∷ 32 ∷ 48 ∷ 10 ∷ [])
+
+abbrev textA : List ℕ
+textA = problem 51 52 ++ (edge 49 50 ++ (edge 49 50 ++ (edge 49 51 ++ edge 50 51)))
+
+abbrev ends : ℕ → ℕ → Ends
+ends u v = record { one = u; two = v }
+
+abbrev edges : ℕ → ℕ → List Ends → Edges
+edges n m l = record { nodes = n; count = m; edges = l }
 
 abbrev pub table : List Trial
 table =
@@ -308,4 +341,46 @@ table =
     ∷ fetch fileA 1000 (0 ∷ 1 ∷ []) 3 (refusedBy 10)
     ∷ fetch fileB 1000 (0 ∷ 3 ∷ []) 3 (refusedBy 15)
     ∷ fetch fileA 1000 (3 ∷ 0 ∷ []) 3 (refusedBy 13)
+    -- document 02, #104: comments anywhere, with any text; no edge; a number of any length keeps its value; 0 is a number
+    ∷ says ((99 ∷ 32 ∷ 104 ∷ 13 ∷ 10 ∷ []) ++ (problem 51 50 ++ (edge 49 50 ++ ((99 ∷ 10 ∷ 99 ∷ 32 ∷ 10 ∷ []) ++ edge 50 51)))) (some (edges 3 2 (ends 1 2 ∷ ends 2 3 ∷ [])))
+    ∷ says (problem 50 48) (some (edges 2 0 []))
+    ∷ says large (some (edges 18446744073709551618 0 []))
+    ∷ says (problem 50 49 ++ edge 48 49) (some (edges 2 1 (ends 0 1 ∷ [])))
+    -- none: an empty text; no line feed at the end; a leading zero; a space at the end; two spaces; no comment; a carriage return behind `c`
+    ∷ says [] none
+    ∷ says (take 10 (problem 50 48)) none
+    ∷ says (word ++ (48 ∷ 50 ∷ 32 ∷ 48 ∷ 10 ∷ [])) none
+    ∷ says (word ++ (50 ∷ 32 ∷ 48 ∷ 32 ∷ 10 ∷ [])) none
+    ∷ says (112 ∷ 32 ∷ drop 1 (problem 50 48)) none
+    ∷ says ((99 ∷ 120 ∷ 10 ∷ []) ++ problem 50 48) none
+    ∷ says ((99 ∷ 13 ∷ 10 ∷ []) ++ problem 50 48) none
+    -- an edge line before the `p` line; a second `p` line; an empty line; another word
+    ∷ says (edge 49 50 ++ problem 50 49) none
+    ∷ says (problem 50 49 ++ (problem 50 49 ++ edge 49 50)) none
+    ∷ says (problem 50 49 ++ ((10 ∷ []) ++ edge 49 50)) none
+    ∷ says (112 ∷ 32 ∷ 99 ∷ 111 ∷ 108 ∷ 32 ∷ 50 ∷ 32 ∷ 48 ∷ 10 ∷ []) none
+    -- 18 bytes, and what stood behind them; ten for no edge; a buffer one byte short
+    ∷ reading (problem 50 49 ++ edge 49 50) (map (λ _. 9) (range 0 19)) (tells 18 (1 ∷ 0 ∷ 0 ∷ 0 ∷ 13 ∷ 2 ∷ 0 ∷ 1 ∷ 1 ∷ 0 ∷ 1 ∷ 2 ∷ 0 ∷ 0 ∷ 0 ∷ 0 ∷ 0 ∷ 1 ∷ 9 ∷ []))
+    ∷ reading (problem 50 48) (map (λ _. 9) (range 0 10)) (tells 10 (1 ∷ 0 ∷ 0 ∷ 0 ∷ 5 ∷ 2 ∷ 0 ∷ 0 ∷ 1 ∷ 0 ∷ []))
+    ∷ reading (problem 50 48) (map (λ _. 9) (range 0 9)) (record { outcome = refused 11; buffers = map (λ _. 9) (range 0 9) })
+    -- 17 for fewer and for more edge lines; 16 before it; and it before 3
+    ∷ reading (problem 50 50 ++ edge 49 50) buffer (refusedBy 17)
+    ∷ reading (problem 50 48 ++ edge 49 50) buffer (refusedBy 17)
+    ∷ reading (problem 50 50 ++ (edge 49 50 ++ (99 ∷ []))) buffer (refusedBy 16)
+    ∷ reading (problem 49 49) buffer (refusedBy 17)
+    -- 3 for a number above the limits, however long, and before 6; 6 before 11
+    ∷ reading (problem 49 48) buffer (refusedBy 3)
+    ∷ reading large buffer (refusedBy 3)
+    ∷ reading (problem 49 49 ++ edge 48 48) buffer (refusedBy 3)
+    ∷ reading (problem 50 49 ++ edge 48 49) buffer (refusedBy 6)
+    ∷ reading (problem 50 49 ++ edge 49 49) buffer (refusedBy 6)
+    ∷ reading (problem 50 49 ++ edge 49 51) buffer (refusedBy 6)
+    -- the ends of all rows, barred ones too; one line where there is no row; 11, and the file's checks before it
+    ∷ writing fileA (map (λ _. 9) (range 0 36)) (tells 35 (textA ++ (9 ∷ [])))
+    ∷ writing fileB (map (λ _. 9) (range 0 35)) (tells 35 textA)
+    ∷ writing (1 ∷ 0 ∷ 0 ∷ 0 ∷ 5 ∷ 2 ∷ 0 ∷ 0 ∷ 1 ∷ 1 ∷ []) (map (λ _. 9) (range 0 11)) (tells 11 (problem 50 48))
+    ∷ writing fileA buffer (refusedBy 11)
+    ∷ writing (withStates 3 0 0 0) buffer (refusedBy 14)
+    -- our own text again
+    ∷ says textA (some (edges 3 4 (ends 1 2 ∷ ends 1 2 ∷ ends 1 3 ∷ ends 2 3 ∷ [])))
     ∷ []

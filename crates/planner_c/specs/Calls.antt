@@ -13,6 +13,7 @@ use Rattle.operations.specs.Operations.{FrontTables, Fronted, Paged, Reached, c
 use Rattle.charges.specs.Charges.{Charge, chargeCall}
 use Rattle.counts.specs.Count.{countCall}
 use Rattle.indexes.specs.Index.{fetchCall, indexCall}
+use Rattle.edge_file.specs.Dimacs.{dimacsCall, textCall}
 use Rattle.offices.specs.Offices.{Counts, Noted, officeCall}
 
 pub record Called (B : Type 0) : Type 0 where
@@ -128,3 +129,11 @@ plannerFront file costs witnesses answer =
 -- A second office in the same table: 1 for 'entered' or 0 for 'met', and the half's new filled count.
 unfoldable pub plannerOffice : List ℕ → List ℕ → ℕ → ℕ → Counts → FrontTables → List ℕ → Called (Beside FrontTables)
 plannerOffice file rows office h counts lent answer = answeringBeside 2 notedValues (officeCall file rows office h counts lent) lent answer
+
+-- A DIMACS edge file read: the network file stands in the buffer; its length.
+unfoldable pub plannerDimacsRead : List ℕ → List ℕ → List ℕ → Called (Beside (List ℕ))
+plannerDimacsRead text buffer answer = answeringBeside 1 (λ bytes. bytes ∷ []) (dimacsCall text buffer) buffer answer
+
+-- A network's ends written as a DIMACS edge file: the text stands in the buffer; its length.
+unfoldable pub plannerDimacsWrite : List ℕ → List ℕ → List ℕ → Called (Beside (List ℕ))
+plannerDimacsWrite file buffer answer = answeringBeside 1 (λ bytes. bytes ∷ []) (textCall file buffer) buffer answer

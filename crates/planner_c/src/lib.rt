@@ -3,6 +3,8 @@
 use charge::Charged;
 use cost::Costed;
 use count::CountAnswer;
+use edge_read::ReadAnswer;
+use edge_write::WriteAnswer;
 use fetch::FetchAnswer;
 use fronted::FrontAnswer;
 use index::IndexAnswer;
@@ -12,7 +14,7 @@ use order::Ordered;
 use page::PageAnswer;
 use reach::ReachAnswer;
 ghost use mathlib.Core.Path.{_≡_};
-ghost use Rattle.planner_c.specs.Calls.{digit, held, plannerCharge, plannerCost, plannerCount, plannerFetch, plannerFront};
+ghost use Rattle.planner_c.specs.Calls.{digit, held, plannerCharge, plannerCost, plannerCount, plannerDimacsRead, plannerDimacsWrite, plannerFetch, plannerFront};
 ghost use Rattle.planner_c.specs.Calls.{plannerIndex, plannerOffice, plannerOpen, plannerOrder, plannerPage, plannerPick, plannerReach};
 
 /// Open: 0 with n, m and k in the first three places of the answer; the refusal's number; or 255 where the answer has
@@ -302,5 +304,45 @@ pub extern "C" fn planner_office(
             0
         }
         OfficeAnswer::Refused(number) => number as u32,
+    }
+}
+
+/// Reads a DIMACS edge file: 0 with the network file in the buffer and its length in bytes in the first place of the answer; the
+/// refusal's number; or 255 where the answer has no place.
+#[no_mangle]
+pub extern "C" fn planner_dimacs_read(text: &[u8], buffer: &mut [u8], answer: &mut [u32]) -> u32
+    ensures { λ r. ⌜ record { code = r; buffers = record { lent = now (buffer .exit); answer = now (answer .exit) } }
+        ≡ plannerDimacsRead (now (text .entry)) (now (buffer .entry)) (now (answer .entry)) ⌝ }
+{
+    if answer.len() < 1 {
+        return 255;
+    }
+    let outcome = edge_read::read(text, buffer);
+    match outcome {
+        ReadAnswer::Length(length) => {
+            answer[0] = length;
+            0
+        }
+        ReadAnswer::Refused(number) => number as u32,
+    }
+}
+
+/// Writes a network's ends as a DIMACS edge file: 0 with the text in the buffer and its length in bytes in the first place of the
+/// answer; the refusal's number; or 255 where the answer has no place.
+#[no_mangle]
+pub extern "C" fn planner_dimacs_write(file: &[u8], buffer: &mut [u8], answer: &mut [u32]) -> u32
+    ensures { λ r. ⌜ record { code = r; buffers = record { lent = now (buffer .exit); answer = now (answer .exit) } }
+        ≡ plannerDimacsWrite (now (file .entry)) (now (buffer .entry)) (now (answer .entry)) ⌝ }
+{
+    if answer.len() < 1 {
+        return 255;
+    }
+    let written = edge_write::write(file, buffer);
+    match written {
+        WriteAnswer::Length(length) => {
+            answer[0] = length;
+            0
+        }
+        WriteAnswer::Refused(number) => number as u32,
     }
 }

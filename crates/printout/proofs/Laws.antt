@@ -1,9 +1,10 @@
--- Bytes put into a buffer: what is put in two parts, one behind the other, is put at once (`behind`); and where the loop ends that puts them (`all-put`).
+-- Bytes put into a buffer: what is put in two parts, one behind the other, is put at once (`behind`); what fits stands there whole (`put-whole`);
+-- and where the loop ends that puts them (`all-put`).
 use mathlib.Core.Path.{_∙_, _≡_, ap, refl, sym}
 use mathlib.Core.Bool.{Bool, false, true}
 use mathlib.Core.List.{List, [], _++_, append-assoc}
 use Prim.Native.Nat.{_+_, _<_, _≤_, ℕ}
-use native.Mathlib.Nat.{add-assoc, add-zero}
+use native.Mathlib.Nat.{add-assoc, add-zero, zero-add}
 use native.Mathlib.Omega.{arith}
 use borrow.Author.Tests.{leb-false, leb-true}
 use lib.Dec.{leb}
@@ -62,6 +63,13 @@ pub behind : (out : List ℕ) (at : ℕ) {between after : List ℕ} {place end :
     → filled after end ≡ put out at (a ++ b)
 unfolding put
 behind out at {between} {after} {place} {end} a b first second = second ∙ ap (λ (f : Filled). put (f .bytes) (f .at) b) first ∙ both out at a b
+
+-- what fits from the first place on stands there, before what was behind it
+pub put-whole : (out bytes : List ℕ) → length bytes ≤ length out → put out 0 bytes ≡ filled (bytes ++ drop (length bytes) out) (length bytes)
+unfolding put
+put-whole out bytes fits =
+    let whole : fitting out 0 bytes ≡ length bytes = omega arith in
+    rw (whole, zero-add (length bytes), take-length bytes)
 
 pub all-put : {out : List ℕ} {at : ℕ} {bytes new : List ℕ} {i : ℕ} → Pasting out at bytes (fitting out at bytes) new i → fitting out at bytes ≤ i → filled new (at + i) ≡ put out at bytes
 unfolding put

@@ -1,5 +1,5 @@
-//! Lines of the printout, put into a buffer that is lent: words and numbers parted by single spaces, each from a place on and as far as it fits.
-//! The longest line has under 250 bytes: a tree of 31 rows with four costs.
+//! Lines of text, put into a buffer that is lent: words and numbers parted by single spaces, each from a place on and as far as it fits.
+//! The longest line of the printout has under 250 bytes: a tree of 31 rows with four costs.
 ghost use mathlib.Core.Path.{_≡_};
 ghost use mathlib.Core.List.{_∷_, []};
 ghost use lib.ListN.{take};

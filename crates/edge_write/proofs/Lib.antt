@@ -1,0 +1,4 @@
+pub mod Lines
+pub mod Lengths
+pub mod Putting
+pub mod Calls
