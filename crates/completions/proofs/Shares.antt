@@ -2,7 +2,7 @@
 -- the prefix has paid for it, in parts of which `parts` make a day. Then the prefix's closing and the shares of further rows are no more than the closing of all (`shares-below`).
 -- Fair are shares that divide a row's days beyond the prefix by at least the number of candidates of its street that have one (`even-fair`).
 use mathlib.Core.Path.{_∙_, _≡_, ap, refl, sym}
-use mathlib.Core.Bool.{Bool, false, not, true}
+use mathlib.Core.Bool.{not}
 use mathlib.Core.List.{List, [], _++_, _∷_, map, map-append}
 use mathlib.Core.List.{Memᴰ·append-left as append-left, Memᴰ·append-right as append-right, List·Memᴰ·head as here, Memᴰ·map as map-in, List·Memᴰ·not-nil as mem-nil, List·Memᴰ·tail as there}
 use Prim.Native.Nat.{_*_, _+_, _-_, _≤_, max, ℕ}
@@ -11,24 +11,15 @@ use native.Mathlib.Nat.{add-mul, mul-le-mul-right}
 use native.Mathlib.Omega.{arith}
 use lib.Dec.{T-not, eqb, eqb→eq, not-T}
 use lib.ListN.{length}
-use Rattle.lists.specs.Lists.{filterB, keepIf, largest, sum}
+use Rattle.lists.specs.Lists.{filterB, largest, sum}
 use Rattle.lists.proofs.Distinct.{Distinct, filter-distinct}
-use Rattle.lists.proofs.Members.{_∈_, _⊆_, filter-keep, filter-out, filter-skip, mem-elim}
+use Rattle.lists.proofs.Members.{_∈_, _⊆_, filter-append, filter-keep, filter-out, filter-skip, mem-elim}
 use Rattle.lists.proofs.Sums.{largest-append, largest-in, sum-append, sum-within}
 use Rattle.lists.proofs.Tests.{eq→eqb}
 use Rattle.costs.specs.Costs.{closingCost, costAt, inStreet, streetCost, streetsOf}
 use Rattle.costs.specs.Network.{Network, rowAt}
 use Rattle.bounds.proofs.Closing.{Named, parts-sum, rows-within, streetOf, streets-named, streets-within}
 use Rattle.forests.specs.Forests.{weight}
-
-filter-append : {A : Type 0} (p : A → Bool) (l m : List A) → filterB p (l ++ m) ≡ filterB p l ++ filterB p m
-unfolding filterB
-filter-append p [] m = refl
-filter-append {A} p (a ∷ l) m = step (p a) (filter-append p l m)
-  where
-    step : (b : Bool) → filterB p (l ++ m) ≡ filterB p l ++ filterB p m → keepIf b a (filterB p (l ++ m)) ≡ keepIf b a (filterB p l) ++ filterB p m
-    step true e = ap (λ (x : List A). a ∷ x) e
-    step false e = e
 
 -- Fair shares
 

@@ -4,10 +4,10 @@ use mathlib.Core.Option.{Option, Option·none-ne-some, none, some}
 use mathlib.Core.List.{List}
 use Prim.Native.Nat.{ℕ}
 use lib.ListN.{drop, length, take}
-use lib.Seq.{drop-at, take-append-seam}
 use Rattle.checks.specs.Checks.{Ended, answered, firstUnmet}
 use Rattle.checks.proofs.Ended.{ended-answered, ended-met, unmet-parts}
 use Rattle.operations.specs.Operations.{over}
+use Rattle.operations.proofs.Over.{over-drop, over-take}
 use Rattle.edge_file.specs.Dimacs.{dimacsCall, edgeFile, edgesCall, edgesChecks, edgesOr, endsOf, textCall, textChecks, textIn}
 use Rattle.edge_file.specs.Text.{Edges, edgesOf}
 use Rattle.edge_file.proofs.Dimacs.{again, again-ends, again-long, again-nodes, again-read, edges-met, own-checks, read-accepted}
@@ -15,13 +15,6 @@ use Rattle.edge_file.proofs.Text.{read-back}
 use Rattle.network_file.specs.File.{fileChecks, networkOf}
 use Rattle.demands.specs.Demands.{Passes}
 use Rattle.demands.specs.Texts.{AgainClaim, ReadClaim, Texts, WriteClaim}
-
--- what stands over a buffer: the places, and behind them the buffer
-over-take : (places buffer : List ℕ) {n : ℕ} → length places ≡ n → take n (over places buffer) ≡ places
-over-take places buffer e = ap (λ (k : ℕ). take k (over places buffer)) (sym e) ∙ take-append-seam places (drop (length places) buffer)
-
-over-drop : (places buffer : List ℕ) {n : ℕ} → length places ≡ n → drop n (over places buffer) ≡ drop n buffer
-over-drop places buffer {n} e = drop-at places (drop (length places) buffer) n e ∙ ap (λ (k : ℕ). drop k buffer) e
 
 module _ (text buffer : List ℕ) (n : ℕ) (e : dimacsCall text buffer .outcome ≡ answered n) where
   call-is : (o : Option Edges) → edgesOf text ≡ o → dimacsCall text buffer ≡ edgesCall o buffer

@@ -2,14 +2,14 @@
 -- by the sizes as they were read; their limits in an accepted file (`sizes-few`).
 use mathlib.Core.Path.{_∙_, _≡_, ap, ap₂, refl, subst, sym}
 use mathlib.Core.Option.{none}
-use mathlib.Core.List.{List, [], _++_, _∷_, append-assoc, append-nil, map}
+use mathlib.Core.List.{List, [], _++_, _∷_, map}
 use Prim.Native.Nat.{_+_, _<_, _≤_, ℕ}
-use native.Mathlib.Numerals.{add-one}
 use native.Mathlib.Omega.{arith}
-use lib.ListN.{getD, length, length-map, take}
-use lib.Seq.{take-all, take-suc}
+use lib.ListN.{length, length-map, take}
+use lib.Seq.{take-all}
 use Rattle.lists.specs.Lists.{concatMap}
 use Rattle.lists.proofs.Maps.{map-at}
+use Rattle.lists.proofs.Sequences.{concatMap-take}
 use Rattle.checks.specs.Checks.{firstUnmet}
 use Rattle.costs.specs.Network.{Network, noRow, rowAt}
 use Rattle.network_file.specs.File.{Sizes, fileChecks, networkOf, sizesOf}
@@ -22,11 +22,6 @@ use Rattle.edge_write.specs.Lines.{edgeLines}
 abbrev pub wholeLine : Ends → List ℕ
 wholeLine e = withFeed (edgeLine e)
 
-lines-snoc : (es : List Ends) (e : Ends) → concatMap wholeLine (es ++ (e ∷ [])) ≡ concatMap wholeLine es ++ wholeLine e
-unfolding concatMap
-lines-snoc [] e = append-nil (wholeLine e)
-lines-snoc (d ∷ es) e = ap (λ (l : List ℕ). wholeLine d ++ l) (lines-snoc es e) ∙ sym (append-assoc (wholeLine d) (concatMap wholeLine es) (wholeLine e))
-
 pub lines-none : (w : Network) → edgeLines w 0 ≡ []
 unfolding edgeLines concatMap
 lines-none w = refl
@@ -34,12 +29,8 @@ lines-none w = refl
 pub lines-more : (w : Network) (r : ℕ) → r < length (w .rows) → edgeLines w (r + 1) ≡ edgeLines w r ++ wholeLine (endsIn (rowAt w r))
 unfolding edgeLines
 lines-more w r h =
-    let few : r < length (endsOf w) = omega (arith, length-map (w .rows) endsIn) in
-    let there : getD (endsOf w) r (endsIn noRow) ≡ endsIn (rowAt w r) = map-at endsIn (w .rows) r noRow (endsIn noRow) h in
-    ap (λ (k : ℕ). concatMap wholeLine (take k (endsOf w))) (add-one r)
-    ∙ ap (concatMap wholeLine) (take-suc (endsOf w) r (endsIn noRow) few)
-    ∙ lines-snoc (take r (endsOf w)) (getD (endsOf w) r (endsIn noRow))
-    ∙ ap (λ (e : Ends). concatMap wholeLine (take r (endsOf w)) ++ wholeLine e) there
+    concatMap-take wholeLine (endsOf w) r (endsIn noRow) (omega (arith, length-map (w .rows) endsIn))
+    ∙ ap (λ (e : Ends). concatMap wholeLine (take r (endsOf w)) ++ wholeLine e) (map-at endsIn (w .rows) r noRow (endsIn noRow) h)
 
 -- lines that are made and then ended, and lines that are made ended
 lines-ended : (es : List Ends) → concatMap withFeed (map edgeLine es) ≡ concatMap wholeLine es

@@ -10,15 +10,15 @@ use Rattle.lists.specs.Lists.{all, any, both, either}
 
 -- whether all pass
 
-module _ (p : ℕ → Bool) (l : List ℕ) (i : ℕ) where
-  all-turn : i < length l → all p (drop i l) ≡ both (p (getD l i 0)) (all p (drop (i + 1) l))
+module _ {A : Type 0} (p : A → Bool) (l : List A) (d : A) (i : ℕ) where
+  all-turn : i < length l → all p (drop i l) ≡ both (p (getD l i d)) (all p (drop (i + 1) l))
   unfolding all
-  all-turn h = rw (drop-cons l i 0 h, add-one)
+  all-turn h = rw (drop-cons l i d h, add-one)
 
-  pub all-next : i < length l → p (getD l i 0) ≡ true → all p (drop i l) ≡ all p (drop (i + 1) l)
+  pub all-next : i < length l → p (getD l i d) ≡ true → all p (drop i l) ≡ all p (drop (i + 1) l)
   all-next h e = all-turn h ∙ (rw e)
 
-  pub all-stop : i < length l → p (getD l i 0) ≡ false → all p (drop i l) ≡ false
+  pub all-stop : i < length l → p (getD l i d) ≡ false → all p (drop i l) ≡ false
   all-stop h e = all-turn h ∙ (rw e)
 
   pub all-end : length l ≤ i → all p (drop i l) ≡ true
@@ -27,15 +27,15 @@ module _ (p : ℕ → Bool) (l : List ℕ) (i : ℕ) where
 
 -- whether one of them passes
 
-module _ (p : ℕ → Bool) (l : List ℕ) (i : ℕ) where
-  any-turn : i < length l → any p (drop i l) ≡ either (p (getD l i 0)) (any p (drop (i + 1) l))
+module _ {A : Type 0} (p : A → Bool) (l : List A) (d : A) (i : ℕ) where
+  any-turn : i < length l → any p (drop i l) ≡ either (p (getD l i d)) (any p (drop (i + 1) l))
   unfolding any
-  any-turn h = rw (drop-cons l i 0 h, add-one)
+  any-turn h = rw (drop-cons l i d h, add-one)
 
-  pub any-next : i < length l → p (getD l i 0) ≡ false → any p (drop i l) ≡ any p (drop (i + 1) l)
+  pub any-next : i < length l → p (getD l i d) ≡ false → any p (drop i l) ≡ any p (drop (i + 1) l)
   any-next h e = any-turn h ∙ (rw e)
 
-  pub any-stop : i < length l → p (getD l i 0) ≡ true → any p (drop i l) ≡ true
+  pub any-stop : i < length l → p (getD l i d) ≡ true → any p (drop i l) ≡ true
   any-stop h e = any-turn h ∙ (rw e)
 
   pub any-end : length l ≤ i → any p (drop i l) ≡ false

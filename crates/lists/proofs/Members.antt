@@ -207,9 +207,16 @@ module _ {A : Type 0} (p : A → Bool) where
   filter-whole [] h = refl
   filter-whole (a ∷ l) h = rw (T-true (p a) .0 (h a (here refl)), filter-whole l (λ b m. h b (there m)))
 
--- Numbers
+-- one list behind another
+pub filter-append : {A : Type 0} (p : A → Bool) (l m : List A) → filterB p (l ++ m) ≡ filterB p l ++ filterB p m
+unfolding filterB
+filter-append p [] m = refl
+filter-append {A} p (a ∷ l) m = step (p a) (filter-append p l m)
+  where
+    step : (b : Bool) → filterB p (l ++ m) ≡ filterB p l ++ filterB p m → keepIf b a (filterB p (l ++ m)) ≡ keepIf b a (filterB p l) ++ filterB p m
+    step true e = ap (λ (x : List A). a ∷ x) e
+    step false e = e
 
--- `member` is membership
 -- two tests that agree on the members
 pub filter-same : {A : Type 0} (p q : A → Bool) (l : List A) → ((a : A) → a ∈ l → p a ≡ q a) → filterB p l ≡ filterB q l
 unfolding filterB
@@ -228,6 +235,8 @@ filter-both {A} p q (a ∷ l) = go (p a) (q a) refl (filter-both p q l)
     go true false e h = h
     go false true e h = rw e h
     go false false e h = h
+
+-- Numbers: `member` is membership
 
 pub member-out : (x : ℕ) (l : List ℕ) → T (member x l) → x ∈ l
 unfolding member

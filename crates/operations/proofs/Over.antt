@@ -1,11 +1,12 @@
--- A buffer that is written over place by place (`over-next`), and rows read back from a table that they were written over (`over-rows`).
+-- A buffer that is written over place by place (`over-next`), rows read back from a table that they were written over (`over-rows`), and what was written and what is behind it
+-- (`over-take`, `over-drop`).
 use mathlib.Core.Path.{_∙_, _≡_, ap, refl, sym}
 use mathlib.Core.List.{List, [], _∷_}
 use Prim.Native.Nat.{_+_, _<_, _≤_, suc, zero, ℕ}
 use native.Mathlib.Numerals.{add-one}
 use native.Mathlib.Omega.{arith}
 use lib.ListN.{drop, getD, length, set, take}
-use lib.Seq.{length-take-le}
+use lib.Seq.{drop-at, length-take-le, take-append-seam}
 use Rattle.lists.proofs.Members.{take-out}
 use Rattle.costs.proofs.Fronts.{Sized}
 use Rattle.pages.specs.Pages.{flat, pieces}
@@ -29,3 +30,10 @@ pub over-rows : (k n : ℕ) (rows : List (List ℕ)) (table : List ℕ) → Size
 over-rows k n rows table sized few =
     ap (λ (m : ℕ). pieces k m (over (flat (take n rows)) table)) (sym (length-take-le n rows few))
     ∙ pieces-flat k (take n rows) (drop (length (flat (take n rows))) table) (λ v m. sized v (take-out n rows m))
+
+-- what stands over a buffer: the places, and behind them the buffer
+pub over-take : (places buffer : List ℕ) {n : ℕ} → length places ≡ n → take n (over places buffer) ≡ places
+over-take places buffer e = ap (λ (k : ℕ). take k (over places buffer)) (sym e) ∙ take-append-seam places (drop (length places) buffer)
+
+pub over-drop : (places buffer : List ℕ) {n : ℕ} → length places ≡ n → drop n (over places buffer) ≡ drop n buffer
+over-drop places buffer {n} e = drop-at places (drop (length places) buffer) n e ∙ ap (λ (k : ℕ). drop k buffer) e

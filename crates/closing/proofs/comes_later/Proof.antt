@@ -30,7 +30,7 @@ street-of-requires c κs = search needs
 
 returns : tie.Need-returns Inv-loop μ-loop
 returns c =
-    sym (c .before .before .before .loop .inv ∙ any-stop _ _ _ (rw (c .before .before .before .before .count .ensures .0) at (c .before .before .loop-test .taken))
+    sym (c .before .before .before .loop .inv ∙ any-stop _ _ 0 _ (rw (c .before .before .before .before .count .ensures .0) at (c .before .before .loop-test .taken))
     (eq-eqb _ _ (sym (c .before .street-of .ensures) ∙ c .if1 .taken)))
 
 add-j : tie.Need-add-j Inv-loop μ-loop
@@ -41,11 +41,11 @@ loop-less c = search needs
 
 loop-again : tie.Need-loop-again Inv-loop μ-loop
 loop-again c =
-    c .before .before .before .loop .inv ∙ any-next _ _ _ (rw (c .before .before .before .before .count .ensures .0) at (c .before .before .loop-test .taken))
+    c .before .before .before .loop .inv ∙ any-next _ _ 0 _ (rw (c .before .before .before .before .count .ensures .0) at (c .before .before .loop-test .taken))
     (ne-eqb _ _ (λ e. c .if1 .left (c .before .street-of .ensures ∙ e)))
 
 returns-2 : tie.Need-returns-2 Inv-loop μ-loop
-returns-2 c = sym (c .before .loop .inv ∙ any-end _ _ _ (rw (c .before .before .count .ensures .0) at (c .loop-test .left)))
+returns-2 c = sym (c .before .loop .inv ∙ any-end _ _ 0 _ (rw (c .before .before .count .ensures .0) at (c .loop-test .left)))
 
 pub comes-later-spec : {M : Type 1} → statement M
 comes-later-spec =

@@ -31,7 +31,7 @@ cast-if1 : tie.Need-cast-if1 Inv-loop μ-loop
 cast-if1 c = omega (arith, c .shared-slice-known .given (c .before .before .loop .i))
 
 returns : tie.Need-returns Inv-loop μ-loop
-returns c = sym (c .before .before .before .loop .inv ∙ any-stop _ _ _ (c .before .before .loop-test .taken) (eq-eqb _ _ (sym (c .if1 .taken))))
+returns c = sym (c .before .before .before .loop .inv ∙ any-stop _ _ 0 _ (c .before .before .loop-test .taken) (eq-eqb _ _ (sym (c .if1 .taken))))
 
 add-i : tie.Need-add-i Inv-loop μ-loop
 add-i c = search needs
@@ -40,10 +40,10 @@ loop-less : tie.Need-loop-less Inv-loop μ-loop
 loop-less c = search needs
 
 loop-again : tie.Need-loop-again Inv-loop μ-loop
-loop-again c = c .before .before .before .loop .inv ∙ any-next _ _ _ (c .before .before .loop-test .taken) (ne-eqb _ _ (λ e. c .if1 .left (sym e)))
+loop-again c = c .before .before .before .loop .inv ∙ any-next _ _ 0 _ (c .before .before .loop-test .taken) (ne-eqb _ _ (λ e. c .if1 .left (sym e)))
 
 returns-2 : tie.Need-returns-2 Inv-loop μ-loop
-returns-2 c = sym (c .before .loop .inv ∙ any-end _ _ _ (c .loop-test .left))
+returns-2 c = sym (c .before .loop .inv ∙ any-end _ _ 0 _ (c .loop-test .left))
 
 pub among-spec : {M : Type 1} → statement M
 among-spec =

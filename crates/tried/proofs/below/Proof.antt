@@ -30,7 +30,7 @@ cast-if1 : tie.Need-cast-if1 Inv-loop μ-loop
 cast-if1 c = omega (arith, c .shared-slice-known .given (c .before .before .loop .i))
 
 returns : tie.Need-returns Inv-loop μ-loop
-returns c = sym (c .before .before .before .loop .inv ∙ all-stop _ _ _ (c .before .before .loop-test .taken) (le-ltb _ _ (c .if1 .taken)))
+returns c = sym (c .before .before .before .loop .inv ∙ all-stop _ _ 0 _ (c .before .before .loop-test .taken) (le-ltb _ _ (c .if1 .taken)))
 
 add-i : tie.Need-add-i Inv-loop μ-loop
 add-i c = search needs
@@ -39,10 +39,10 @@ loop-less : tie.Need-loop-less Inv-loop μ-loop
 loop-less c = search needs
 
 loop-again : tie.Need-loop-again Inv-loop μ-loop
-loop-again c = c .before .before .before .loop .inv ∙ all-next _ _ _ (c .before .before .loop-test .taken) (lt-ltb _ _ (c .if1 .left))
+loop-again c = c .before .before .before .loop .inv ∙ all-next _ _ 0 _ (c .before .before .loop-test .taken) (lt-ltb _ _ (c .if1 .left))
 
 returns-2 : tie.Need-returns-2 Inv-loop μ-loop
-returns-2 c = sym (c .before .loop .inv ∙ all-end _ _ _ (c .loop-test .left))
+returns-2 c = sym (c .before .loop .inv ∙ all-end _ _ 0 _ (c .loop-test .left))
 
 pub below-spec : {M : Type 1} → statement M
 below-spec =
