@@ -69,7 +69,7 @@ pub record Sayable (version : ℕ) (w : Network) : Type 0 where
   pub wide : (r : Row) → r ∈ w .rows → length (r .costs) ≡ length (w .kinds)
   pub opened : (r : Row) → r ∈ w .rows → eqb version 2 ≡ false → r .state ≡ «open»
 
-kinds-back : (kinds : List Kind) → kindsOf (map kindNumber kinds) ≡ kinds
+pub kinds-back : (kinds : List Kind) → kindsOf (map kindNumber kinds) ≡ kinds
 unfolding kindsOf kindOf
 kinds-back [] = refl
 kinds-back (added ∷ kinds) = ap (λ (l : List Kind). added ∷ l) (kinds-back kinds)

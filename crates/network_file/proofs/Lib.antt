@@ -1,3 +1,5 @@
 pub mod Accepted
 pub mod Opened
 pub mod Bytes
+pub mod KindBytes
+pub mod Frames
