@@ -1,15 +1,10 @@
 //! DIMACS edge files read and written, beside plain Rust that makes the same checks and answers the same.
 
-use std::hint::black_box;
-
 use planner_tests::ffi;
 use planner_tests::file::Network;
 use planner_tests::rng::Rng;
 
-use crate::{print_ratio, shortest};
-
-/// How many calls are measured together.
-const CALLS: usize = 1_000;
+use crate::compare_calls;
 
 /// A number without leading zeros. One that 64 bits do not hold stays above every limit.
 fn number(token: &[u8]) -> Option<u64> {
@@ -77,7 +72,7 @@ fn plain_read(text: &[u8], buffer: &mut [u8]) -> Result<usize, u32> {
 }
 
 /// The nodes of a network file and how long a row of it is, or the number that refuses it.
-fn plain_open(file: &[u8]) -> Result<(u8, usize), u32> {
+pub fn plain_open(file: &[u8]) -> Result<(u8, usize), u32> {
     let number = |bytes: &[u8]| {
         bytes
             .iter()
@@ -168,38 +163,6 @@ fn text_with_comments(network: &Network) -> Vec<u8> {
     text.into_bytes()
 }
 
-/// Calls of the library and of plain Rust, by turns.
-fn compare(
-    name: &str,
-    input: &[u8],
-    library: fn(&[u8], &mut [u8], &mut [u32]) -> u32,
-    plain: fn(&[u8], &mut [u8]) -> Result<usize, u32>,
-) -> Vec<u8> {
-    let mut ours = vec![0; 4_096];
-    let mut theirs = ours.clone();
-    let mut answer = [0];
-    assert_eq!(library(input, &mut ours, &mut answer), 0);
-    assert_eq!(plain(input, &mut theirs), Ok(answer[0] as usize));
-    assert!(ours == theirs, "{name}: not the same");
-    let written = ours[..answer[0] as usize].to_vec();
-    let times = shortest(
-        || {
-            for _ in 0..CALLS {
-                assert_eq!(library(black_box(input), &mut ours, &mut [0]), 0);
-                black_box(&ours);
-            }
-        },
-        || {
-            for _ in 0..CALLS {
-                assert!(plain(black_box(input), &mut theirs).is_ok());
-                black_box(&theirs);
-            }
-        },
-    );
-    print_ratio(name, CALLS, times[0], times[1]);
-    written
-}
-
 pub fn table() {
     let network = Network::random(&mut Rng::new(104), 32, 256, 1);
     let text = text_with_comments(&network);
@@ -209,7 +172,17 @@ pub fn table() {
         "", "calls", "library", "plain Rust", "ratio"
     );
     let read = format!("a text of {} bytes read", text.len());
-    let file = compare(&read, &text, ffi::dimacs_read, plain_read);
+    let file = compare_calls(
+        &read,
+        [&text],
+        |[text], buffer, answer| ffi::dimacs_read(text, buffer, answer),
+        |[text], buffer| plain_read(text, buffer),
+    );
     let written = format!("a file of {} bytes written", file.len());
-    compare(&written, &file, ffi::dimacs_write, plain_write);
+    compare_calls(
+        &written,
+        [&file],
+        |[file], buffer, answer| ffi::dimacs_write(file, buffer, answer),
+        |[file], buffer| plain_write(file, buffer),
+    );
 }

@@ -1,6 +1,7 @@
 //! Measures the proved library beside plain Rust, both built for release, in one run, and prints tables; with the argument
-//! 'front' the fronts in seconds only, with 'count' the counts, with 'index' the indexes, with 'dimacs' the edge files. It tests
-//! nothing but that both list the same trees, have the same fronts, count alike, and build, fetch, read and write the same.
+//! 'front' the fronts in seconds only, with 'count' the counts, with 'index' the indexes, with 'dimacs' the edge files, with 'survey'
+//! the surveys. It tests nothing but that both list the same trees, have the same fronts, count alike, and build, fetch, read and
+//! write the same.
 
 mod count;
 mod dimacs;
@@ -8,6 +9,7 @@ mod index;
 mod limited;
 mod networks;
 mod seconds;
+mod survey;
 
 use std::hint::black_box;
 use std::time::{Duration, Instant};
@@ -102,6 +104,41 @@ fn print_ratio(name: &str, trees: usize, ours: Duration, theirs: Duration) {
         each(ours),
         each(theirs)
     );
+}
+
+/// How many calls that write bytes are measured together.
+const CALLS: usize = 1_000;
+
+/// Calls of the library and of plain Rust that write bytes, by turns; what is written.
+fn compare_calls<const N: usize>(
+    name: &str,
+    inputs: [&[u8]; N],
+    library: fn([&[u8]; N], &mut [u8], &mut [u32]) -> u32,
+    plain: fn([&[u8]; N], &mut [u8]) -> Result<usize, u32>,
+) -> Vec<u8> {
+    let mut ours = vec![0; 8_192];
+    let mut theirs = ours.clone();
+    let mut answer = [0];
+    assert_eq!(library(inputs, &mut ours, &mut answer), 0);
+    assert_eq!(plain(inputs, &mut theirs), Ok(answer[0] as usize));
+    assert!(ours == theirs, "{name}: not the same");
+    let written = ours[..answer[0] as usize].to_vec();
+    let times = shortest(
+        || {
+            for _ in 0..CALLS {
+                assert_eq!(library(black_box(inputs), &mut ours, &mut [0]), 0);
+                black_box(&ours);
+            }
+        },
+        || {
+            for _ in 0..CALLS {
+                assert!(plain(black_box(inputs), &mut theirs).is_ok());
+                black_box(&theirs);
+            }
+        },
+    );
+    print_ratio(name, CALLS, times[0], times[1]);
+    written
 }
 
 /// A call with a page of one tree, from the first on and behind the first tree.
@@ -207,6 +244,8 @@ fn main() {
             println!();
             dimacs::table();
             println!();
+            survey::table();
+            println!();
             seconds::table();
             println!();
             count::table();
@@ -216,9 +255,10 @@ fn main() {
         ["count"] => count::table(),
         ["index"] => index::tables(),
         ["dimacs"] => dimacs::table(),
+        ["survey"] => survey::table(),
         ["count", line, network, way] => count::measure(line, network, way),
         _ => {
-            eprintln!("usage: bench/run [front | count | index | dimacs]");
+            eprintln!("usage: bench/run [front | count | index | dimacs | survey]");
             std::process::exit(2);
         }
     }

@@ -14,6 +14,15 @@ pub struct Sizes {
 }
 
 impl Sizes {
+    pub fn of(network: &Network) -> Sizes {
+        Sizes {
+            version: network.version,
+            n: network.n as usize,
+            m: network.m(),
+            k: network.k(),
+        }
+    }
+
     /// Mostly small ones, some of any size, some at the limits.
     pub fn random(version: u8, rng: &mut Rng) -> Sizes {
         match rng.between(0, 19) {
@@ -269,12 +278,7 @@ pub fn faults(version: u8) -> Vec<&'static Fault> {
 /// The network's file with one fault, or two.
 pub fn damaged(network: &Network, rng: &mut Rng) -> Vec<u8> {
     let faults = faults(network.version);
-    let sizes = Sizes {
-        version: network.version,
-        n: network.n as usize,
-        m: network.m(),
-        k: network.k(),
-    };
+    let sizes = Sizes::of(network);
     let mut file = network.encode();
     for _ in 0..rng.between(1, 2) {
         let fault = rng.between(0, faults.len() - 1);

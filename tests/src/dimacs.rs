@@ -64,7 +64,7 @@ fn lines(text: &[u8]) -> Result<Vec<Line<'_>>, u32> {
 }
 
 /// What was made, if it fits into so many places.
-fn fitting(made: Vec<u8>, places: usize) -> Result<Vec<u8>, u32> {
+pub fn fitting(made: Vec<u8>, places: usize) -> Result<Vec<u8>, u32> {
     // 11: a buffer too short.
     if made.len() > places {
         return Err(11);

@@ -121,10 +121,7 @@ fn states(rng: &mut Rng, network: Network) -> Network {
         0 => states[row] = rng.pick(&[MUST, BARRED]),
         // every row between the same two nodes must be dug
         1 => {
-            let pair = |row: usize| {
-                let [a, b] = network.rows[row].ends;
-                [a.min(b), a.max(b)]
-            };
+            let pair = |row: usize| network.rows[row].pair();
             (0..m)
                 .filter(|&other| pair(other) == pair(row))
                 .for_each(|other| states[other] = MUST);

@@ -130,6 +130,17 @@ extern "C" {
         answer: *mut u32,
         answer_len: usize,
     ) -> u32;
+
+    fn planner_survey(
+        older: *const u8,
+        older_len: usize,
+        newer: *const u8,
+        newer_len: usize,
+        buffer: *mut u8,
+        buffer_len: usize,
+        answer: *mut u32,
+        answer_len: usize,
+    ) -> u32;
 }
 
 /// Open: 0 with n, m, k in the first three places of the answer, or the refusal's number.
@@ -331,6 +342,23 @@ pub fn dimacs_write(file: &[u8], buffer: &mut [u8], answer: &mut [u32]) -> u32 {
         planner_dimacs_write(
             file.as_ptr(),
             file.len(),
+            buffer.as_mut_ptr(),
+            buffer.len(),
+            answer.as_mut_ptr(),
+            answer.len(),
+        )
+    }
+}
+
+/// A newer survey over an older written as one network file: 0 with the file in the buffer's first bytes and its length in the first
+/// place of the answer, or the refusal's number.
+pub fn survey(older: &[u8], newer: &[u8], buffer: &mut [u8], answer: &mut [u32]) -> u32 {
+    unsafe {
+        planner_survey(
+            older.as_ptr(),
+            older.len(),
+            newer.as_ptr(),
+            newer.len(),
             buffer.as_mut_ptr(),
             buffer.len(),
             answer.as_mut_ptr(),

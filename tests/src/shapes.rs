@@ -1,12 +1,9 @@
 //! Networks of known shapes, of one added criterion with costs of 0: those whose counts are published, and those that are hard
 //! to count.
 
-use crate::file::{Network, Row};
+use crate::file::{Network, Row, MOST_ROWS};
 use crate::rng::Rng;
 use crate::trees;
-
-/// The most rows of a file.
-const MOST_ROWS: usize = 256;
 
 /// A network with these rows.
 pub fn with_rows(n: u8, pairs: &[[u8; 2]]) -> Network {

@@ -46,6 +46,7 @@ fn the_first_table_has_every_operation() {
         "office::office",
         "edge_read::read",
         "edge_write::write",
+        "survey::survey",
     ];
     assert_eq!(listed, operations);
     let said = text(&crates().join("demands/specs/Demands.antt"));

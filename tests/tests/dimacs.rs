@@ -1,112 +1,40 @@
 //! DIMACS edge files, as linked from the proved library and as the program `dimacs` converts them, held to document 02, #104: worked
-//! texts first, every change of one byte, then seeded texts, sound and damaged, and round trips, all against independent code. Every
-//! buffer is compared whole after every call, what is read too.
+//! texts first, every change of one byte, then seeded texts, sound and damaged, and round trips, all against independent code.
 
 use std::fs::{self, File};
 use std::process::Stdio;
 
+use planner_tests::calls::{Calls, Way};
 use planner_tests::damage::{damaged, Sizes};
 use planner_tests::dimacs;
 use planner_tests::dimacs_damage::{comment, sound, sound_of, Fault, CAP, FAULTS};
 use planner_tests::draw;
-use planner_tests::ffi::{self, SHORT_ANSWER};
+use planner_tests::ffi;
 use planner_tests::file::{Network, Row, BARRED, MUST, NETWORK_A, OPEN};
-use planner_tests::lent::Lent;
 use planner_tests::program::{self, Written};
 use planner_tests::reading;
 use planner_tests::rng::Rng;
 use planner_tests::seen::Seen;
 use planner_tests::{shapes, trees};
 
-/// One of the two calls, with the independent code for it: what comes of an input and so many places.
-struct Way {
-    call: fn(&[u8], &mut [u8], &mut [u32]) -> u32,
-    outcome: fn(&[u8], usize) -> Result<Vec<u8>, u32>,
-}
-
-const READ: Way = Way {
-    call: ffi::dimacs_read,
-    outcome: dimacs::read,
+const READ: Way<1> = Way {
+    call: |[text], buffer, answer| ffi::dimacs_read(text, buffer, answer),
+    outcome: |[text], places| dimacs::read(text, places),
 };
 
-const WRITE: Way = Way {
-    call: ffi::dimacs_write,
-    outcome: dimacs::write,
+const WRITE: Way<1> = Way {
+    call: |[file], buffer, answer| ffi::dimacs_write(file, buffer, answer),
+    outcome: |[file], places| dimacs::write(file, places),
 };
-
-impl Way {
-    /// Makes the call with so many places of the buffer and of the answer, and holds it to the independent code; returns what it
-    /// must come to.
-    fn hold(
-        &self,
-        input: &[u8],
-        places: usize,
-        answer_places: usize,
-        rng: &mut Rng,
-    ) -> Result<Vec<u8>, u32> {
-        // what stands behind the input may not be read: a line feed there would end a last line
-        let mut lent = Lent::holding(input, || rng.pick(b"\n\n 0"));
-        let mut buffer = Lent::new(places, || rng.byte());
-        let mut answer = Lent::new(answer_places, || rng.word() as u32);
-        let code = (self.call)(lent.part(), buffer.part(), answer.part());
-        let expected = match answer_places {
-            0 => Err(SHORT_ANSWER),
-            _ => (self.outcome)(input, places),
-        };
-        let told = || {
-            let text = input.escape_ascii();
-            format!("\"{text}\", {places} and {answer_places} places")
-        };
-        assert_eq!(code, *expected.as_ref().err().unwrap_or(&0), "{}", told());
-        lent.expect(&[], told);
-        match &expected {
-            Ok(written) => {
-                buffer.expect(written, told);
-                answer.expect(&[written.len() as u32], told);
-            }
-            Err(_) => {
-                buffer.expect(&[], told);
-                answer.expect(&[], told);
-            }
-        }
-        expected
-    }
-
-    /// Holds the call to an outcome that is known, with buffers of every kind, and so the independent code too.
-    fn expect(&self, input: &[u8], outcome: Result<&[u8], u32>) {
-        let rng = &mut Rng::new(input.len() as u64);
-        let told = || input.escape_ascii().to_string();
-        let needed = outcome.map_or(5_000, <[u8]>::len);
-        for answer_places in [1, 2, 7] {
-            for places in [needed, needed + 1, needed + 100] {
-                let came = self.hold(input, places, answer_places, rng);
-                assert_eq!(
-                    came.as_deref().map_err(|&number| number),
-                    outcome,
-                    "{}",
-                    told()
-                );
-            }
-            for places in [0, needed - 1] {
-                let number = *outcome.as_ref().err().unwrap_or(&11);
-                let came = self.hold(input, places, answer_places, rng);
-                assert_eq!(came, Err(number), "{}", told());
-            }
-        }
-        for places in [0, needed] {
-            assert_eq!(self.hold(input, places, 0, rng), Err(SHORT_ANSWER));
-        }
-    }
-}
 
 /// Holds reading to the number that refuses a text; 0 where it is read.
 fn expect_number(text: &[u8], number: u32) {
     match number {
         0 => {
             let file = dimacs::read(text, usize::MAX);
-            READ.expect(text, Ok(&file.expect("the independent code refuses it")));
+            READ.expect([text], Ok(&file.expect("the independent code refuses it")));
         }
-        _ => READ.expect(text, Err(number)),
+        _ => READ.expect([text], Err(number)),
     }
 }
 
@@ -129,21 +57,21 @@ fn a_text_and_its_file() {
         1, 2, 0, 0, 0, 0, 0, 1, // row 0
         3, 1, 0, 0, 0, 0, 0, 1, // row 1
     ];
-    READ.expect(text, Ok(&file));
-    WRITE.expect(&file, Ok(b"p edge 3 2\ne 1 2\ne 3 1\n"));
+    READ.expect([text], Ok(&file));
+    WRITE.expect([&file], Ok(b"p edge 3 2\ne 1 2\ne 3 1\n"));
 
     let file = [1, 0, 0, 0, 5, 32, 0, 0, 1, 0];
-    READ.expect(b"p edge 32 0\n", Ok(&file));
-    WRITE.expect(&file, Ok(b"p edge 32 0\n"));
+    READ.expect([b"p edge 32 0\n"], Ok(&file));
+    WRITE.expect([&file], Ok(b"p edge 32 0\n"));
 }
 
 #[test]
 fn network_a_of_document_01() {
     let text = b"p edge 3 4\ne 1 2\ne 1 2\ne 1 3\ne 2 3\n";
-    WRITE.expect(&NETWORK_A, Ok(text));
+    WRITE.expect([&NETWORK_A], Ok(text));
     let states = [BARRED, MUST, OPEN, BARRED];
     let network = reading::network(&NETWORK_A).unwrap().with_states(&states);
-    WRITE.expect(&network.encode(), Ok(text));
+    WRITE.expect([&network.encode()], Ok(text));
 }
 
 /// Lines as the document's words go, each put before, between and behind the others of a sound text.
@@ -317,14 +245,14 @@ fn sizes_at_their_limits() {
     }
     for m in [65_536, 65_537, 100_000] {
         let text = text_of("2", &m.to_string(), &vec![["1", "2"]; m]);
-        assert_eq!(READ.hold(&text, 10 + 8 * m, 1, rng), Err(3));
+        assert_eq!(READ.hold([&text], 10 + 8 * m, 1, rng), Err(3));
     }
     for n in 2..=32 {
         for m in 0..=256 {
             let text = sound_of(n, m, rng);
             let needed = 10 + 8 * m;
-            assert_eq!(READ.hold(&text, needed, 1, rng).unwrap().len(), needed);
-            assert_eq!(READ.hold(&text, needed - 1, 1, rng), Err(11));
+            assert_eq!(READ.hold([&text], needed, 1, rng).unwrap().len(), needed);
+            assert_eq!(READ.hold([&text], needed - 1, 1, rng), Err(11));
         }
     }
 }
@@ -365,7 +293,7 @@ fn ends_at_their_limits() {
                     let text = text_of(&n, "2", &[["1", "2"], edge]);
                     assert_eq!(dimacs::read(&text, usize::MAX).err().unwrap_or(0), number);
                     let rng = &mut Rng::new(text.len() as u64);
-                    let came = READ.hold(&text, 26, 1, rng);
+                    let came = READ.hold([&text], 26, 1, rng);
                     assert_eq!(came.err().unwrap_or(0), number);
                 }
             }
@@ -391,8 +319,8 @@ fn comments_anywhere() {
     text.resize(text.len() + 100_000, b'x');
     text.push(b'\n');
     println!("{} bytes", text.len());
-    READ.expect(&text, Ok(&file));
-    READ.expect(&text[..text.len() - 1], Err(16));
+    READ.expect([&text], Ok(&file));
+    READ.expect([&text[..text.len() - 1]], Err(16));
 }
 
 /// Every text that one byte changed, put in or lost makes of a sound one.
@@ -402,7 +330,7 @@ fn every_change_of_one_byte() {
     let sound = b"c a\np edge 12 3\ne 1 2\nc\ne 12 10\nc \ne 3 1\n";
     let mut numbers = [0; 18];
     let mut hold = |text: &[u8]| {
-        let came = READ.hold(text, 34, 1, rng);
+        let came = READ.hold([text], 34, 1, rng);
         numbers[came.err().unwrap_or(0) as usize] += 1;
     };
     for at in 0..=sound.len() {
@@ -439,7 +367,7 @@ fn every_short_rest() {
             for rest in 0..BYTES.len().pow(length) {
                 let mut text = begun.as_bytes().to_vec();
                 text.extend((0..length).map(|place| BYTES[rest >> (3 * place) & 7]));
-                let came = READ.hold(&text, 18, 1, rng);
+                let came = READ.hold([&text], 18, 1, rng);
                 numbers[came.err().unwrap_or(0) as usize] += 1;
             }
         }
@@ -516,7 +444,7 @@ fn the_first_check_decides() {
             needed
         };
         let first = ORDER.into_iter().find(|&check| has(check));
-        let came = READ.hold(text.as_bytes(), places, 1, rng);
+        let came = READ.hold([text.as_bytes()], places, 1, rng);
         assert_eq!(came.err(), first, "{text}");
         for b in 0..5 {
             (0..b)
@@ -541,70 +469,10 @@ const ENOUGH_OF_A_CHECK: usize = 3_000;
 const ENOUGH_OF_A_FAULT: usize = 300;
 const ENOUGH_OF_A_CALL: usize = 1_000;
 
-/// The calls of one kind: how many of each code, and with which buffers.
-struct Calls {
-    codes: [usize; 256],
-    seen: Seen,
-}
-
-impl Calls {
-    fn new() -> Calls {
-        Calls {
-            codes: [0; 256],
-            seen: Seen::default(),
-        }
-    }
-
-    /// Makes the call with buffers of every kind; returns what comes of it where there are places enough.
-    fn hold(&mut self, way: &Way, input: &[u8], rng: &mut Rng) -> Result<Vec<u8>, u32> {
-        let outcome = (way.outcome)(input, usize::MAX);
-        let any = rng.between(1, 100);
-        let needed = outcome.as_ref().map_or(any, Vec::len);
-        let longer = needed + rng.between(1, 20);
-        let shorter = rng.between(0, needed - 1);
-        for places in [needed, longer, needed - 1, rng.pick(&[0, shorter])] {
-            let answer_places = rng.pick(&[1, 1, 1, 2, 5, 0]);
-            let came = way.hold(input, places, answer_places, rng);
-            if answer_places > 0 {
-                match outcome {
-                    Ok(_) if places < needed => assert_eq!(came, Err(11)),
-                    _ => assert_eq!(came, outcome),
-                }
-            }
-            self.codes[came.err().unwrap_or(0) as usize] += 1;
-            let seen = &mut self.seen;
-            seen.note("an answer with no place", answer_places == 0);
-            seen.note("an answer of several places", answer_places > 1);
-            if answer_places > 0 && outcome.is_ok() {
-                seen.note("a buffer exactly long enough", places == needed);
-                seen.note("a longer buffer", places > needed);
-                seen.note("a buffer one byte short", places == needed - 1);
-                seen.note("an empty buffer", places == 0);
-            }
-            if answer_places > 0 && outcome.is_err() {
-                seen.note("a refusal over an empty buffer", places == 0);
-                seen.note("a refusal over a buffer with bytes", places > 0);
-            }
-        }
-        outcome
-    }
-
-    /// These codes came, each so often, and no others; buffers of every kind too.
-    fn enough(&self, codes: &[usize], enough: usize) {
-        let calls: usize = self.codes.iter().sum();
-        println!("{calls} calls, by code, 0 to 17: {:?}", &self.codes[..18]);
-        println!("with a short answer: {}", self.codes[255]);
-        self.seen.enough(enough);
-        assert!(codes.iter().all(|&code| self.codes[code] >= enough));
-        let known: usize = codes.iter().map(|&code| self.codes[code]).sum();
-        assert_eq!(known, calls);
-    }
-}
-
 #[test]
 fn seeded_texts() {
     let rng = &mut Rng::new(20_260_104);
-    let mut calls = Calls::new();
+    let mut calls = Calls::default();
     let mut of_check = [0; 18];
     let mut of_fault = [0; FAULTS.len()];
     for _ in 0..TEXTS {
@@ -616,7 +484,7 @@ fn seeded_texts() {
                 had.push(which);
             }
         }
-        let number = calls.hold(&READ, &text, rng).err().unwrap_or(0);
+        let number = calls.hold(&READ, [&text], rng).err().unwrap_or(0);
         match had[..] {
             [] => assert_eq!(number, 0, "{}", text.escape_ascii()),
             [alone] => {
@@ -672,8 +540,7 @@ fn some_network(rng: &mut Rng) -> Network {
 /// Notes what a network has that its text does not carry, or has at a limit.
 fn note(network: &Network, seen: &mut Seen) {
     let has = |state: u8| network.rows.iter().any(|row| row.state == state);
-    let mut pairs: Vec<[u8; 2]> = network.rows.iter().map(|row| row.ends).collect();
-    pairs.iter_mut().for_each(|pair| pair.sort());
+    let mut pairs: Vec<[u8; 2]> = network.rows.iter().map(Row::pair).collect();
     pairs.sort();
     seen.note("version 1", network.version == 1);
     seen.note("version 2", network.version == 2);
@@ -717,12 +584,12 @@ fn with_comments(text: &[u8], rng: &mut Rng) -> Vec<u8> {
 fn round_trips() {
     let rng = &mut Rng::new(110);
     let mut seen = Seen::default();
-    let (mut writes, mut reads) = (Calls::new(), Calls::new());
+    let (mut writes, mut reads) = (Calls::default(), Calls::default());
     for _ in 0..NETWORKS {
         let network = some_network(rng);
         note(&network, &mut seen);
-        let text = writes.hold(&WRITE, &network.encode(), rng).unwrap();
-        let file = reads.hold(&READ, &text, rng).unwrap();
+        let text = writes.hold(&WRITE, [&network.encode()], rng).unwrap();
+        let file = reads.hold(&READ, [&text], rng).unwrap();
         let rows = network
             .rows
             .iter()
@@ -733,8 +600,9 @@ fn round_trips() {
         assert_eq!(ffi::open(&file, &mut answer), 0);
         assert_eq!(answer, [network.n as u32, network.m() as u32, 1]);
 
-        assert_eq!(writes.hold(&WRITE, &file, rng), Ok(text.clone()));
-        assert_eq!(reads.hold(&READ, &with_comments(&text, rng), rng), Ok(file));
+        assert_eq!(writes.hold(&WRITE, [&file], rng), Ok(text.clone()));
+        let commented = with_comments(&text, rng);
+        assert_eq!(reads.hold(&READ, [&commented], rng), Ok(file));
     }
     println!("{NETWORKS} networks");
     seen.enough(300);
@@ -746,12 +614,12 @@ fn round_trips() {
 #[test]
 fn damaged_files() {
     let rng = &mut Rng::new(111);
-    let mut calls = Calls::new();
+    let mut calls = Calls::default();
     for _ in 0..NETWORKS {
         let network = some_network(rng);
         let file = damaged(&network, rng);
         let opened = ffi::open(&file, &mut [0; 3]);
-        let written = calls.hold(&WRITE, &file, rng);
+        let written = calls.hold(&WRITE, [&file], rng);
         assert_eq!(opened, written.err().unwrap_or(0), "{file:02x?}");
     }
     calls.enough(&[0, 1, 2, 3, 4, 5, 6, 7, 11, 14, 255], 200);
@@ -916,8 +784,7 @@ fn the_sample_into_treelist() {
     let file = convert(&text).out;
     let network = reading::network(&file).unwrap();
     let pairs = |network: &Network| {
-        let mut pairs: Vec<[u8; 2]> = network.rows.iter().map(|row| row.ends).collect();
-        pairs.iter_mut().for_each(|pair| pair.sort());
+        let mut pairs: Vec<[u8; 2]> = network.rows.iter().map(Row::pair).collect();
         pairs.sort();
         pairs
     };

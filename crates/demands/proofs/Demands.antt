@@ -17,6 +17,7 @@ use Rattle.counts.specs.Count.{countCall, countChecks}
 use Rattle.indexes.specs.Index.{entryChecks, fetchCall, fetchChecks, indexCall, indexChecks}
 use Rattle.edge_file.specs.Dimacs.{dimacsCall, edgesCall, edgesChecks, textCall, textChecks}
 use Rattle.edge_file.specs.Text.{edgesOf}
+use Rattle.surveys.specs.Surveys.{surveyCall, surveyChecks}
 use Rattle.offices.specs.Offices.{Counts, officeCall, officeChecks}
 use Rattle.offices.proofs.Calls.{other-kept}
 use Rattle.offices.proofs.Offices.{offices}
@@ -38,11 +39,11 @@ page-others : (f page start : List ℕ) → member 12 (numbers (check 11 (leb (w
 page-others f page start = ap (λ (l : List ℕ). member 12 (11 ∷ l)) (start-order (networkOf f) start) ∙ start-others start
 
 pub demand-1 : (f rows : List ℕ) (criterion : ℕ) (buffer page start : List ℕ) (spacing : ℕ) (index : List ℕ) (tree : ℕ) (costs witnesses : List ℕ) (office h : ℕ) (counts : Counts)
-    (text : List ℕ) → Demand1 f rows criterion buffer page start spacing index tree costs witnesses office h counts text
-unfolding openOf reachCall countCall orderCall costCall chargeCall pageCall indexCall fetchCall frontCall officeCall dimacsCall edgesCall textCall
-    fileChecks countChecks orderChecks costChecks chargeChecks pageChecks indexChecks fetchChecks frontChecks officeChecks edgesChecks textChecks drawnChecks treeChecks entryChecks
+    (text newer : List ℕ) → Demand1 f rows criterion buffer page start spacing index tree costs witnesses office h counts text newer
+unfolding openOf reachCall countCall orderCall costCall chargeCall pageCall indexCall fetchCall frontCall officeCall dimacsCall edgesCall textCall surveyCall
+    fileChecks countChecks orderChecks costChecks chargeChecks pageChecks indexChecks fetchChecks frontChecks officeChecks edgesChecks textChecks surveyChecks drawnChecks treeChecks entryChecks
     member any
-demand-1 f rows criterion buffer page start spacing index tree costs witnesses office h counts text = record {
+demand-1 f rows criterion buffer page start spacing index tree costs witnesses office h counts text newer = record {
   opens = refuses-checked (fileChecks f) _;
   reaches = refuses-checked (fileChecks f) _;
   tallies = refuses-checked (countChecks f) _;
@@ -56,6 +57,7 @@ demand-1 f rows criterion buffer page start spacing index tree costs witnesses o
   notes = refuses-ended (officeChecks f rows office h counts (record { costs = costs; witnesses = witnesses })) _ (record { costs = costs; witnesses = witnesses }) _;
   reads = refuses-ended (edgesChecks (edgesOf text) buffer) _ buffer _;
   writes = refuses-ended (textChecks f buffer) _ buffer _;
+  surveys = refuses-ended (surveyChecks f newer buffer) _ buffer _;
   pages-none = twelve f (fileChecks f) _ (λ ok. ok) refl (page-others f page start) _ page _;
   fronts-none = twelve f (fileChecks f) _ (λ ok. ok) refl (start-others []) _ (record { costs = costs; witnesses = witnesses }) _;
   indexes-none = index-none f spacing index;
@@ -70,6 +72,7 @@ demand-1 f rows criterion buffer page start spacing index tree costs witnesses o
   front-order = refl;
   read-order = refl;
   write-order = refl;
+  survey-order = refl;
   office-order = refl;
 }
 

@@ -5,5 +5,6 @@ pub mod Indexes
 pub mod Pages
 pub mod Refusals
 pub mod Shuffles
+pub mod Surveys
 pub mod Texts
 pub mod Trees

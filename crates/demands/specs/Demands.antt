@@ -1,5 +1,6 @@
 -- The three demands on the library, said over the definitions that the contracts cite; `demand-1`, `demand-2` and `demand-3` of proofs/Demands.antt are
--- their proofs. Beside them Shuffles.antt says what two files have in common whose rows stand in another sequence, and Texts.antt what a DIMACS edge file and a network file have.
+-- their proofs. Beside them Shuffles.antt says what two files have in common whose rows stand in another sequence, Texts.antt what a DIMACS edge file
+-- and a network file have, and Surveys.antt what stands of two surveys.
 --
 -- On every input an operation equals its definition: that is its contract. The demands speak of the definitions. (tests/tests/contracts.rs holds both
 -- tables to the contracts in src/.)
@@ -20,6 +21,7 @@
 -- | office::office    | offices Offices officeCall      | 1, 2, 3 |
 -- | edge_read::read   | edge_file Dimacs dimacsCall     | 1       |
 -- | edge_write::write | edge_file Dimacs textCall       | 1       |
+-- | survey::survey    | surveys Surveys surveyCall      | 1       |
 --
 -- The functions for Rust and C, each with the definition that it hands on:
 --
@@ -39,6 +41,7 @@
 -- | planner_c::planner_office       | planner_c Calls plannerOffice      | officeCall |
 -- | planner_c::planner_dimacs_read  | planner_c Calls plannerDimacsRead  | dimacsCall |
 -- | planner_c::planner_dimacs_write | planner_c Calls plannerDimacsWrite | textCall   |
+-- | planner_c::planner_survey       | planner_c Calls plannerSurvey      | surveyCall |
 use mathlib.Core.Path.{_≡_}
 use mathlib.Core.Bool.{false}
 use mathlib.Core.Logic.{_↔_}
@@ -68,6 +71,7 @@ use Rattle.counts.specs.Trees.{treeCount}
 use Rattle.indexes.specs.Index.{entryAt, fetchCall, fetchChecks, indexCall, indexChecks}
 use Rattle.edge_file.specs.Dimacs.{dimacsCall, edgesChecks, textCall, textChecks}
 use Rattle.edge_file.specs.Text.{edgesOf}
+use Rattle.surveys.specs.Surveys.{surveyCall, surveyChecks}
 use Rattle.operations.proofs.Runs.{Claim}
 use Rattle.table.specs.Enter.{Row}
 use Rattle.offices.specs.Offices.{Counts, Half, fitsIn, halfOf, halfRows, noteOf, officeCall, officeChecks, partOf, rowsAfter, tablesFit, written}
@@ -107,7 +111,7 @@ startNumbers (r ∷ rs) = 8 ∷ 9 ∷ 10 ∷ 15 ∷ 13 ∷ []
 
 -- Open, Reach and Count are lent nothing to write in
 pub record Demand1 (f rows : List ℕ) (criterion : ℕ) (buffer page start : List ℕ) (spacing : ℕ) (index : List ℕ) (tree : ℕ) (costs witnesses : List ℕ) (office h : ℕ) (counts : Counts)
-    (text : List ℕ) : Type 0 where
+    (text newer : List ℕ) : Type 0 where
   pub opens : (e : ℕ) → (openOf f ≡ refused e) ↔ StopsAt (fileChecks f) e
   pub reaches : (e : ℕ) → (reachCall f ≡ refused e) ↔ StopsAt (fileChecks f) e
   pub tallies : (e : ℕ) → (countCall f ≡ refused e) ↔ StopsAt (countChecks f) e
@@ -122,12 +126,14 @@ pub record Demand1 (f rows : List ℕ) (criterion : ℕ) (buffer page start : Li
   -- reading a text is refused by its own checks, and writing one by the file's
   pub reads : Refuses (edgesChecks (edgesOf text) buffer) (dimacsCall text buffer) buffer
   pub writes : Refuses (textChecks f buffer) (textCall f buffer) buffer
+  -- a newer survey over the file: both files' checks, then the call's own
+  pub surveys : Refuses (surveyChecks f newer buffer) (surveyCall f newer buffer) buffer
   -- 12 exactly if there is no tree
   pub pages-none : (pageCall f page start .outcome ≡ refused 12) ↔ NoTree f
   pub fronts-none : (frontCall f costs witnesses .outcome ≡ refused 12) ↔ NoTree f
   -- and the spacing is in range, which is asked before
   pub indexes-none : (indexCall f spacing index .outcome ≡ refused 12) ↔ (T (within 1 1000 spacing) × NoTree f)
-  -- document 01's order, with 14 to 17, 22, 24, 25 and 26 of document 02
+  -- document 01's order, with 14 to 19, 22, 24, 25 and 26 of document 02
   pub file-order : numbers (fileChecks f) ≡ fileNumbers
   pub count-order : numbers (countChecks f) ≡ fileNumbers ++ (25 ∷ [])
   pub order-order : numbers (orderChecks f rows buffer) ≡ fileNumbers ++ (8 ∷ 9 ∷ 10 ∷ 15 ∷ 11 ∷ [])
@@ -139,6 +145,7 @@ pub record Demand1 (f rows : List ℕ) (criterion : ℕ) (buffer page start : Li
   pub front-order : numbers (frontChecks f costs witnesses) ≡ fileNumbers ++ (12 ∷ 11 ∷ [])
   pub read-order : numbers (edgesChecks (edgesOf text) buffer) ≡ 16 ∷ 17 ∷ 3 ∷ 6 ∷ 11 ∷ []
   pub write-order : numbers (textChecks f buffer) ≡ fileNumbers ++ (11 ∷ [])
+  pub survey-order : numbers (surveyChecks f newer buffer) ≡ fileNumbers ++ fileNumbers ++ (18 ∷ 19 ∷ 11 ∷ [])
   pub office-order : numbers (officeChecks f rows office h counts (record { costs = costs; witnesses = witnesses })) ≡ fileNumbers ++ (8 ∷ 9 ∷ 10 ∷ 15 ∷ 11 ∷ 24 ∷ [])
 
 -- Demand 2, of a file that passes: each listed layout is a tree of the network, written as its minimal path; each drawn tree is turned into the one

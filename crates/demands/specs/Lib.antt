@@ -1,3 +1,4 @@
 pub mod Demands
 pub mod Shuffles
 pub mod Texts
+pub mod Surveys

@@ -1,7 +1,7 @@
 -- Document 01's starred trials, as questions to the definitions of the operations, each with its answer, on network A's file; and trials
 -- of document 02's row states (#102) and first witness (#101) on files with the same ends, of streets closed once (#103) on network C's, of
 -- comparison by cases (#105), of the connection charge (#109), of two offices in one table (#111), of the count (#112), of shuffled rows (#113), of
--- trees by number (#114), and of DIMACS edge files (#104).
+-- trees by number (#114), of DIMACS edge files (#104), and of a newer survey over an older (#106).
 use mathlib.Core.Path.{_≡_}
 use mathlib.Core.Bool.{Bool, false, true}
 use mathlib.Core.List.{List, [], _++_, _∷_, map}
@@ -22,6 +22,7 @@ use Rattle.edge_file.specs.Dimacs.{dimacsCall, textCall}
 use Rattle.edge_file.specs.Text.{Edges, Ends, edgesOf}
 use Rattle.offices.specs.Offices.{Counts, Noted, officeCall}
 use Rattle.shuffles.specs.Shuffles.{partParallel, renamedPath}
+use Rattle.surveys.specs.Surveys.{surveyCall}
 use Rattle.examples.specs.Examples.{A, B, C}
 
 -- the 59 bytes of network A's file: the sizes, the kinds, and a line for each row
@@ -82,6 +83,26 @@ fileC =
     ∷ 1 ∷ 2 ∷ 0 ∷ 0 ∷ 0 ∷ 0 ∷ 0 ∷ 4 ∷ 0 ∷ 0 ∷ 0 ∷ 4
     ∷ []
 
+-- a newer survey of network A's nodes: one row of the pair 2 and 1, barred, in street 7
+abbrev pub newerA : List ℕ
+newerA =
+    2 ∷ 0 ∷ 0 ∷ 0 ∷ 19 ∷ 3 ∷ 0 ∷ 1 ∷ 2 ∷ 0 ∷ 1
+    ∷ 2 ∷ 1 ∷ 0 ∷ 7 ∷ 2 ∷ 0 ∷ 0 ∷ 0 ∷ 9 ∷ 0 ∷ 0 ∷ 0 ∷ 8
+    ∷ []
+
+-- and over network A: its rows 2 and 3 stand
+abbrev pub surveyedA : List ℕ
+surveyedA =
+    2 ∷ 0 ∷ 0 ∷ 0 ∷ 45 ∷ 3 ∷ 0 ∷ 3 ∷ 2 ∷ 0 ∷ 1
+    ∷ 1 ∷ 3 ∷ 0 ∷ 0 ∷ 0 ∷ 0 ∷ 0 ∷ 0 ∷ 5 ∷ 0 ∷ 0 ∷ 0 ∷ 5
+    ∷ 2 ∷ 3 ∷ 0 ∷ 0 ∷ 0 ∷ 0 ∷ 0 ∷ 0 ∷ 3 ∷ 0 ∷ 0 ∷ 0 ∷ 6
+    ∷ 2 ∷ 1 ∷ 0 ∷ 7 ∷ 2 ∷ 0 ∷ 0 ∷ 0 ∷ 9 ∷ 0 ∷ 0 ∷ 0 ∷ 8
+    ∷ []
+
+-- the same nodes and kinds without rows, in version 1
+abbrev pub rowless : List ℕ
+rowless = 1 ∷ 0 ∷ 0 ∷ 0 ∷ 6 ∷ 3 ∷ 0 ∷ 0 ∷ 2 ∷ 0 ∷ 1 ∷ []
+
 -- each of a file
 pub data Trial : Type 0 where
   opened : List ℕ → Outcome Sizes → Trial
@@ -111,6 +132,8 @@ pub data Trial : Type 0 where
   says : List ℕ → Option Edges → Trial
   reading : List ℕ → List ℕ → Ended ℕ (List ℕ) → Trial
   writing : List ℕ → List ℕ → Ended ℕ (List ℕ) → Trial
+  -- a newer file over an older, into this buffer
+  surveyed : List ℕ → List ℕ → List ℕ → Ended ℕ (List ℕ) → Trial
   -- Front with tables of three places each, which hold one row
   frontIn : List ℕ → Ended Fronted FrontTables → Trial
   -- and of two vectors: dominance, and the cases after each number of components
@@ -141,6 +164,7 @@ Right (fetch f s places t e) = fetchCall f s places t buffer ≡ e
 Right (says text o) = edgesOf text ≡ o
 Right (reading text buffer e) = dimacsCall text buffer ≡ e
 Right (writing f buffer e) = textCall f buffer ≡ e
+Right (surveyed older newer b e) = surveyCall older newer b ≡ e
 Right (frontIn f e) = frontCall f buffer buffer ≡ e
 Right (dominance v w b) = dominates v w ≡ b
 Right (cases v w l) = map (λ i. caseAfter i v w) (range 0 (suc (length v))) ≡ l
@@ -383,4 +407,21 @@ table =
     ∷ writing (withStates 3 0 0 0) buffer (refusedBy 14)
     -- our own text again
     ∷ says textA (some (edges 3 4 (ends 1 2 ∷ ends 1 2 ∷ ends 1 3 ∷ ends 2 3 ∷ [])))
+    -- document 02, #106: both rows of the pair 1 and 2 go, though the newer one is written the other way round and barred; exactly 50 bytes, and one short
+    ∷ surveyed fileA newerA (map (λ _. 9) (range 0 51)) (tells 50 (surveyedA ++ (9 ∷ [])))
+    ∷ surveyed fileA newerA (map (λ _. 9) (range 0 50)) (tells 50 surveyedA)
+    ∷ surveyed fileA newerA (map (λ _. 9) (range 0 49)) (record { outcome = refused 11; buffers = map (λ _. 9) (range 0 49) })
+    -- the other way round, and over themselves: version 1 becomes version 2 with open rows, and states stay
+    ∷ surveyed newerA fileA (map (λ _. 9) (range 0 63)) (tells 63 (withStates 0 0 0 0))
+    ∷ surveyed fileA fileA (map (λ _. 9) (range 0 63)) (tells 63 (withStates 0 0 0 0))
+    ∷ surveyed fileB fileB (map (λ _. 9) (range 0 63)) (tells 63 fileB)
+    -- without rows on either side
+    ∷ surveyed rowless fileA (map (λ _. 9) (range 0 63)) (tells 63 (withStates 0 0 0 0))
+    ∷ surveyed fileB rowless (map (λ _. 9) (range 0 63)) (tells 63 fileB)
+    -- 18 for another n, k or sequence of kinds, before 11; the newer's checks before it, and the older's before them
+    ∷ surveyed fileA (take 5 fileA ++ (4 ∷ drop 6 fileA)) buffer (refusedBy 18)
+    ∷ surveyed fileA (1 ∷ 0 ∷ 0 ∷ 0 ∷ 5 ∷ 3 ∷ 0 ∷ 0 ∷ 1 ∷ 0 ∷ []) buffer (refusedBy 18)
+    ∷ surveyed fileA (take 9 fileA ++ (1 ∷ 0 ∷ drop 11 fileA)) buffer (refusedBy 18)
+    ∷ surveyed fileC (withStates 3 0 0 0) buffer (refusedBy 14)
+    ∷ surveyed (withStates 3 0 0 0) [] buffer (refusedBy 14)
     ∷ []

@@ -70,6 +70,11 @@ pub rows-length : (f : List ℕ) → length (networkOf f .rows) ≡ sizesOf f .m
 unfolding networkOf
 rows-length f = length-map (range 0 (sizesOf f .m)) (rowIn f) ∙ range-length 0 (sizesOf f .m)
 
+-- each row has a cost for each criterion
+pub row-costs : (f : List ℕ) (r : ℕ) → length (rowIn f r .costs) ≡ sizesOf f .k
+unfolding rowIn
+row-costs f r = length-map (range 0 (sizesOf f .k)) _ ∙ range-length 0 (sizesOf f .k)
+
 pub row-in : (f : List ℕ) (r : ℕ) → r < sizesOf f .m → rowAt (networkOf f) r ≡ rowIn f r
 unfolding networkOf
 row-in f r h = getD-map-range (rowIn f) (sizesOf f .m) r _ h

@@ -14,6 +14,7 @@ use Rattle.charges.specs.Charges.{Charge, chargeCall}
 use Rattle.counts.specs.Count.{countCall}
 use Rattle.indexes.specs.Index.{fetchCall, indexCall}
 use Rattle.edge_file.specs.Dimacs.{dimacsCall, textCall}
+use Rattle.surveys.specs.Surveys.{surveyCall}
 use Rattle.offices.specs.Offices.{Counts, Noted, officeCall}
 
 pub record Called (B : Type 0) : Type 0 where
@@ -137,3 +138,7 @@ plannerDimacsRead text buffer answer = answeringBeside 1 (λ bytes. bytes ∷ []
 -- A network's ends written as a DIMACS edge file: the text stands in the buffer; its length.
 unfoldable pub plannerDimacsWrite : List ℕ → List ℕ → List ℕ → Called (Beside (List ℕ))
 plannerDimacsWrite file buffer answer = answeringBeside 1 (λ bytes. bytes ∷ []) (textCall file buffer) buffer answer
+
+-- A newer survey over an older: the file stands in the buffer; its length.
+unfoldable pub plannerSurvey : List ℕ → List ℕ → List ℕ → List ℕ → Called (Beside (List ℕ))
+plannerSurvey older newer buffer answer = answeringBeside 1 (λ bytes. bytes ∷ []) (surveyCall older newer buffer) buffer answer

@@ -13,9 +13,10 @@ use office::OfficeAnswer;
 use order::Ordered;
 use page::PageAnswer;
 use reach::ReachAnswer;
+use survey::SurveyAnswer;
 ghost use mathlib.Core.Path.{_≡_};
 ghost use Rattle.planner_c.specs.Calls.{digit, held, plannerCharge, plannerCost, plannerCount, plannerDimacsRead, plannerDimacsWrite, plannerFetch, plannerFront};
-ghost use Rattle.planner_c.specs.Calls.{plannerIndex, plannerOffice, plannerOpen, plannerOrder, plannerPage, plannerPick, plannerReach};
+ghost use Rattle.planner_c.specs.Calls.{plannerIndex, plannerOffice, plannerOpen, plannerOrder, plannerPage, plannerPick, plannerReach, plannerSurvey};
 
 /// Open: 0 with n, m and k in the first three places of the answer; the refusal's number; or 255 where the answer has
 /// under three places.
@@ -344,5 +345,30 @@ pub extern "C" fn planner_dimacs_write(file: &[u8], buffer: &mut [u8], answer: &
             0
         }
         WriteAnswer::Refused(number) => number as u32,
+    }
+}
+
+/// Writes a newer survey over an older as one network file: 0 with the file in the buffer and its length in bytes in the first place of
+/// the answer; the refusal's number; or 255 where the answer has no place.
+#[no_mangle]
+pub extern "C" fn planner_survey(
+    older: &[u8],
+    newer: &[u8],
+    buffer: &mut [u8],
+    answer: &mut [u32],
+) -> u32
+    ensures { λ r. ⌜ record { code = r; buffers = record { lent = now (buffer .exit); answer = now (answer .exit) } }
+        ≡ plannerSurvey (now (older .entry)) (now (newer .entry)) (now (buffer .entry)) (now (answer .entry)) ⌝ }
+{
+    if answer.len() < 1 {
+        return 255;
+    }
+    let surveyed = survey::survey(older, newer, buffer);
+    match surveyed {
+        SurveyAnswer::Length(length) => {
+            answer[0] = length;
+            0
+        }
+        SurveyAnswer::Refused(number) => number as u32,
     }
 }

@@ -1,0 +1,1 @@
+//! A newer survey over an older: the definitions and their laws, with no code.
