@@ -1,7 +1,8 @@
--- Two accepted files by their sizes as they were read (`newer-fits`, `rows-read`). The file that is written, by its parts as the code puts them: the head, the older rows that
+-- Two accepted files by their sizes as they were read (`file-fits`, `rows-read`). The file that is written, by its parts as the code puts them: the head, the older rows that
 -- stand, the newer rows (`file-parts`); how many rows that are (`rows-in-all`) and how long it is (`file-size`); and the parts put one behind the other into a buffer with room
 -- (`file-put`).
 use mathlib.Core.Path.{_∙_, _≡_, ap, ap₂, refl, sym}
+use mathlib.Core.Option.{none}
 use mathlib.Core.List.{List, _++_, append-assoc}
 use Prim.Native.Nat.{_*_, _+_, _≤_, ℕ}
 use native.Mathlib.Omega.{arith}
@@ -9,9 +10,10 @@ use lib.ListN.{length, length-append}
 use Rattle.lists.specs.Lists.{concatMap}
 use Rattle.lists.proofs.Sequences.{concatMap-append}
 use Rattle.lists.proofs.Tests.{T-true}
+use Rattle.checks.specs.Checks.{firstUnmet}
 use Rattle.costs.specs.Network.{Network, Row}
 use Rattle.network_file.specs.Bytes.{bodyBytes, bytesOfRow, fileOf}
-use Rattle.network_file.specs.File.{networkOf, rowStart}
+use Rattle.network_file.specs.File.{Sizes, fileChecks, networkOf, rowStart, sizesOf}
 use Rattle.network_file.proofs.Accepted.{accepted, rows-length}
 use Rattle.network.specs.Rows.{Fitting}
 use Rattle.operations.specs.Operations.{over}
@@ -25,6 +27,10 @@ use Rattle.survey.specs.Head.{followBytes, headBytes}
 abbrev rowsBytes : List Row → List ℕ
 rowsBytes rows = concatMap (bytesOfRow 2) rows
 
+-- an accepted file can be read in place
+pub file-fits : (f : List ℕ) → firstUnmet (fileChecks f) ≡ none → {s : Sizes} → s ≡ sizesOf f → Fitting f s
+file-fits f met are = record { same = are; long = accepted f met .long ∙ ap (rowStart f) (sym (ap {B = ℕ} (λ z. z .m) are)) }
+
 -- two files of one frame, both accepted, with their sizes as they were read
 module _ {older newer : List ℕ} {x : Frame} (framing : Framing older newer x) where
   abbrev stood : List Row
@@ -32,10 +38,6 @@ module _ {older newer : List ℕ} {x : Frame} (framing : Framing older newer x) 
 
   abbrev joined : Network
   joined = surveyNetwork (networkOf older) (networkOf newer)
-
-  -- the newer can be read in place
-  pub newer-fits : Fitting newer (x .second)
-  newer-fits = record { same = framing .second-sizes; long = accepted newer (framing .second-met) .long ∙ ap (rowStart newer) (sym (ap {B = ℕ} (λ z. z .m) (framing .second-sizes))) }
 
   pub rows-read : x .first .m ≡ length (networkOf older .rows)
   rows-read = ap {B = ℕ} (λ z. z .m) (framing .first-sizes) ∙ sym (rows-length older)

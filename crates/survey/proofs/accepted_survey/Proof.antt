@@ -1,6 +1,6 @@
 -- `survey::accepted_survey` meets its contract: the rows in all are counted (`rows-in-all`) and the file's length is worked out (`file-size`) before anything is put; what is put
 -- then is the file (`file-put`).
-use mathlib.Core.Path.{_∙_, _≡_, ap₂, sym}
+use mathlib.Core.Path.{_∙_, _≡_, ap₂}
 use mathlib.Core.List.{List}
 use Prim.Native.Nat.{_*_, _+_, _≤_, ℕ}
 use native.Mathlib.Omega.{arith}
@@ -10,7 +10,7 @@ use Rattle.checks.specs.Checks.{Ended, answered}
 use Rattle.surveys.specs.Surveys.{surveyFile, surveyNetwork}
 use Rattle.network_file.specs.File.{networkOf}
 use Rattle.survey.proofs.Calls.{survey-many, survey-short, survey-written}
-use Rattle.survey.proofs.Files.{file-put, file-size, newer-fits, rows-in-all, rows-read}
+use Rattle.survey.proofs.Files.{file-fits, file-put, file-size, rows-in-all, rows-read}
 use Rattle.survey.proofs.Putting.{head-few}
 use Rattle.survey.proofs.accepted_survey.Statement.{statement}
 use Rattle.survey.proofs.accepted_survey.Tie as tie
@@ -19,7 +19,7 @@ cast-rows : tie.Need-cast-rows
 cast-rows c = search needs
 
 survivor-count-requires : tie.Need-survivor-count-requires
-survivor-count-requires c κs = search (needs, newer-fits, rows-read)
+survivor-count-requires c κs = search (needs, file-fits, rows-read)
 
 -- how many rows there are in all
 counted : (c : tie.After-survivor-count)
@@ -81,7 +81,7 @@ put-head-requires : tie.Need-put-head-requires
 put-head-requires c κs = search needs
 
 put-survivors-requires : tie.Need-put-survivors-requires
-put-survivors-requires c κs = search (needs, newer-fits)
+put-survivors-requires c κs = search (needs, file-fits)
 
 put-rows-requires : tie.Need-put-rows-requires
 put-rows-requires c κs = search needs
