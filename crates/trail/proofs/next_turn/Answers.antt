@@ -63,7 +63,7 @@ asked c kept' keys w =
     let within = c.loop-i.invariant.0 in
     let left = c.loop-i.invariant.1 keys w in
     bound_ways w n (n - 1) one within left (sym (kept' keys w) ∙ c.if-not-is_kept.true) c.next_row-beside.ensures c.if-beside-ne0.false refl
-    (c.set_at.ensures (place_less w n (n - 1) one within left)) c.nodes-nodes.ensures c.minus2.ensures c.minus.ensures
+    (c.set_at.ensures (place_less w n (n - 1) one within left)) c.nodes-nodes.ensures c.minus-fresh.ensures c.minus-later.ensures
     c.open_past.ensures
 
 pub returns-then-open_past : goal.returns-then-open_past
