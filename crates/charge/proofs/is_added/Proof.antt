@@ -1,8 +1,8 @@
 -- The kind byte is asked only of a criterion that the file has.
 use borrow.Author.Rules.{rules}
-use Rattle.fields.proofs.Added.{added_past, added_within}
-use Rattle.fields.proofs.is_added.Statement.{statement}
-use Rattle.fields.proofs.is_added.Tie as tie
+use Rattle.charge.proofs.Laws.{added_past, added_within}
+use Rattle.charge.proofs.is_added.Statement.{statement}
+use Rattle.charge.proofs.is_added.Tie as tie
 
 header_of_requires : tie.Need-header-of-requires
 header_of_requires c κs = search rules
