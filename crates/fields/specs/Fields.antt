@@ -1,6 +1,6 @@
 -- What the code's sizes, states and rows say in document 01's terms.
-use Rattle.std.specs.Prelude.{List, ℕ}
 use Rattle.std.proofs.Math.Option.{Option, none, some}
+use Rattle.std.specs.Prelude.{List, ℕ}
 use Rattle.costs.specs.Network as net
 use Rattle.network_file.specs.File.{Sizes}
 use Rattle.fields.specs.declared.ByteState.{ByteState}
