@@ -1,11 +1,13 @@
 //! Connection charge: a drawn spanning tree's total of one added criterion, split among nodes 2 to n.
+#![tactic(auto)]
+
 ghost use Rattle.std.specs.Prelude.{◌≡◌, ◌<◌, ◌≤◌, length};
 ghost use Rattle.operations.specs.Operations.{over};
 ghost use Rattle.charges.specs.Charges.{borne_by, charge_call, charges_by};
 ghost use Rattle.charge.specs.Answers.{added_byte, charged_of};
 
 /// The answer of the connection charge: the charges stand in the buffer.
-#[derive(Drop)]
+#[derive(Clone, Copy)]
 pub enum Charged {
     Split { quotient: u32, remainder: u32 },
     Refused(u8),

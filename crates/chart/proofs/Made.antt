@@ -14,7 +14,7 @@ use Rattle.lists.specs.Lists.{filter_b, range}
 use Rattle.lists.proofs.Distinct.{filter_distinct, range_distinct}
 use Rattle.lists.proofs.Maps.{map_at}
 use Rattle.lists.proofs.Members.{◌∈◌, filter_in, filter_out, range_in}
-use Rattle.graph.specs.Graph.{Graph, first_end, second_end}
+use Rattle.graph.specs.Graph.{Graph}
 use Rattle.graph.proofs.Growth.{Joins}
 use Rattle.graph.proofs.Masked.{ends_as}
 use Rattle.graph.proofs.Minimal.{WellFormed}

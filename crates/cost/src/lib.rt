@@ -1,10 +1,12 @@
 //! Cost: the cost vector of a drawn spanning tree.
+#![tactic(auto)]
+
 ghost use Rattle.std.specs.Prelude.{◌≡◌};
 ghost use Rattle.operations.specs.Operations.{cost_call};
 ghost use Rattle.cost.specs.Answers.{costed_of};
 
 /// The answer of Cost: the vector stands in the buffer.
-#[derive(Drop)]
+#[derive(Clone, Copy)]
 pub enum Costed {
     Vector,
     Refused(u8),

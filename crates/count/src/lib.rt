@@ -1,4 +1,6 @@
 //! Count: how many trees the list has, without listing them. The rows become links between 32 nodes, which are counted by dropping and by merging.
+#![tactic(auto)]
+
 ghost use Rattle.std.specs.Prelude.{◌≡◌, min};
 ghost use Rattle.checks.specs.Checks.{answered};
 ghost use Rattle.counts.specs.Count.{count_call};
@@ -17,14 +19,14 @@ use network::Opened;
 use weights::Weight;
 
 /// The answer of Count.
-#[derive(Drop)]
+#[derive(Clone, Copy)]
 pub enum CountAnswer {
     Trees(u32),
     Refused(u8),
 }
 
 /// The weights of the links between 32 nodes: that of nodes a > b stands at a * 32 + b.
-#[derive(Drop)]
+#[derive(Clone, Copy)]
 pub struct Links {
     pub dropped: [u32; 1024],
     pub merged: [u32; 1024],

@@ -1,6 +1,8 @@
 //! The lines of a DIMACS edge file, one by one: a cursor, which is a place of the text, answers the line that begins there and the cursor behind it.
 //! Numbers are held at a cap, which is above every limit of a network file and above the lines of any text. What the types below stand for is said in
 //! specs/Numbers.antt, and how a reader meets a text in specs/Reading.antt.
+#![tactic(auto)]
+
 ghost use Rattle.std.specs.Prelude.{◌≡◌, ◌*◌, ◌+◌, ◌-◌, ◌≤◌, min, length};
 ghost use Rattle.edge_file.specs.Decimal.{is_digit, leads, number_of};
 ghost use Rattle.edge_file.specs.Text.{is_comment, line_of};
@@ -11,14 +13,14 @@ ghost use Rattle.edge_lines.specs.Reading.{before, cap, edge_from, held_at, held
 const CAP: u64 = 18446744073709551609;
 
 // A number as it was read: whether the bytes write one, and its value, held at the cap.
-#[derive(Drop)]
+#[derive(Clone, Copy)]
 struct Number {
     some: bool,
     value: u64,
 }
 
 // Two numbers as they were read: whether the bytes write two, parted by a space, and their values, held at the cap.
-#[derive(Drop)]
+#[derive(Clone, Copy)]
 struct Two {
     some: bool,
     first: u64,
@@ -26,7 +28,7 @@ struct Two {
 }
 
 /// A line as it was read, with its numbers held at the cap.
-#[derive(Drop)]
+#[derive(Clone, Copy)]
 pub enum TextLine {
     Comment,
     Problem { nodes: u64, count: u64 },
@@ -35,13 +37,13 @@ pub enum TextLine {
 }
 
 /// A place of a text, where a line begins.
-#[derive(Drop)]
+#[derive(Clone, Copy)]
 pub struct Cursor {
     pub at: usize,
 }
 
 /// What a cursor finds: a line, and the cursor behind it, or the text's end.
-#[derive(Drop)]
+#[derive(Clone, Copy)]
 pub enum Step {
     Line { line: TextLine, next: Cursor },
     Done,

@@ -1,6 +1,8 @@
 //! Reading a DIMACS edge file into a network file of version 1, in a buffer that is lent: a first pass over the lines classifies and counts them, a second
 //! writes a row for each edge line. What a call comes to is said in edge_file's specs/Dimacs.antt; what a pass comes to, in specs/Scan.antt; specs/Answers.antt says
 //! what the types below stand for.
+#![tactic(auto)]
+
 ghost use Rattle.std.specs.Prelude.{◌≡◌, ◌&&◌, ◌||◌, ◌+◌, ◌<◌, ◌≤◌, length};
 ghost use Rattle.lists.specs.Lists.{concat_map};
 ghost use Rattle.checks.specs.Checks.{checked};
@@ -15,7 +17,7 @@ ghost use Rattle.edge_read.specs.Scan.{file_length, head_bytes, line_bytes, scan
 use edge_lines::{Cursor, Step, TextLine};
 
 /// The answer of reading: the file's length in bytes, or the number of the check that is not met.
-#[derive(Drop)]
+#[derive(Clone, Copy)]
 pub enum ReadAnswer {
     Length(u32),
     Refused(u8),
@@ -23,7 +25,7 @@ pub enum ReadAnswer {
 
 // What the lines have said so far: whether one was of no form or in the wrong place, whether the `p` line was met, its numbers, how many edge lines, and whether
 // their ends are nodes and differ.
-#[derive(Drop)]
+#[derive(Clone, Copy)]
 struct Tally {
     bad: bool,
     seen: bool,

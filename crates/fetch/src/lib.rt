@@ -1,4 +1,6 @@
 //! A tree fetched by its number: from the index's entry at or below it, by at most s - 1 moves.
+#![tactic(auto)]
+
 ghost use Rattle.std.specs.Prelude.{◌≡◌, true, List, ◌≤◌, ℕ, length};
 ghost use Rattle.std.proofs.Math.Option.{none, some};
 ghost use Rattle.checks.specs.Checks.{first_unmet};
@@ -12,7 +14,7 @@ use moves::Tree;
 use network::Opened;
 
 /// The answer of a fetch: the moves made; the tree stands in the buffer.
-#[derive(Drop)]
+#[derive(Clone, Copy)]
 pub enum FetchAnswer {
     Moves(u32),
     Refused(u8),

@@ -1,5 +1,7 @@
 //! The fields of a network file by value: its sizes, its rows, their states and their costs, of any file, accepted or not.
 //! Where they stand is said in network_file's specs/File.antt; specs/Fields.antt says what the types below stand for.
+#![tactic(auto)]
+
 ghost use Rattle.std.specs.Prelude.{◌≡◌, ◌*◌, ◌+◌, ◌≤◌, eqb};
 ghost use Rattle.lists.specs.Lists.{pick};
 ghost use Rattle.costs.specs.Costs.{cost_at};
@@ -9,7 +11,7 @@ ghost use Rattle.network_file.specs.File.{byte_at, length_field, network_of, row
 ghost use Rattle.fields.specs.Fields.{row_with, sizes_in, state_in, state_named};
 
 /// The nodes, the rows and the criteria of a network file.
-#[derive(Drop)]
+#[derive(Clone, Copy)]
 pub struct Header {
     pub n: u8,
     pub m: u16,
@@ -17,7 +19,7 @@ pub struct Header {
 }
 
 /// Whether a row may be dug, must be, or may not.
-#[derive(Drop)]
+#[derive(Clone, Copy)]
 pub enum State {
     Open,
     Must,
@@ -25,14 +27,14 @@ pub enum State {
 }
 
 /// The state that a byte of the file names.
-#[derive(Drop)]
+#[derive(Clone, Copy)]
 pub enum ByteState {
     Known(State),
     Unknown,
 }
 
 /// A row of the network without its costs: its two ends, its street and its state.
-#[derive(Drop)]
+#[derive(Clone, Copy)]
 pub struct Row {
     pub first: u8,
     pub second: u8,

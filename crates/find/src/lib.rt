@@ -2,6 +2,8 @@
 //! A node of the search is the rows that are in and the usable rows. It is settled by the lightest choice among the usable rows, for a sum of the criteria with factors,
 //! or else split at a row of that choice: first in, by recursion, then out, in the loop. The factors are tuned from choice to choice; any would do.
 //! Which tree is found is left open; that one is found exactly if there is one is not.
+#![tactic(auto)]
+
 ghost use Rattle.std.specs.Prelude.{◌≡◌, ◌∷◌, ◌+◌, ◌-◌, ◌<◌, ◌≤◌, suc, ℕ, leb, get_or, length, take};
 ghost use Rattle.lists.specs.Lists.{pick};
 ghost use Rattle.lists.proofs.Members.{◌∈◌};
@@ -15,14 +17,14 @@ ghost use Rattle.find.specs.Nodes.{Given, Judges, Reached, Settles, Sifted, Usab
 use chosen::Chosen;
 
 /// A tree that may be missing.
-#[derive(Drop)]
+#[derive(Clone, Copy)]
 pub struct Found {
     pub some: bool,
     pub rows: Chosen,
 }
 
 // What the lightest choice says of a node: it is closed, a tree is found, or neither; then the choice, and factors for the next one.
-#[derive(Drop)]
+#[derive(Clone, Copy)]
 struct Judged {
     closed: bool,
     found: bool,

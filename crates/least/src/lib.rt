@@ -1,5 +1,7 @@
 //! Least: the least cost vector of the trees with all must rows that no known vector meets. A vector found in a box is lowered in one component after the
 //! other, each as far as trees are found; the boxes leave out what the known vectors meet in their components from 1 on.
+#![tactic(auto)]
+
 ghost use Rattle.std.specs.Prelude.{◌≡◌, ◌/◌, ◌<◌, min, suc, T, length, set, take};
 ghost use Rattle.costs.specs.Costs.{vector_less};
 ghost use Rattle.completions.specs.Boxes.{inside};
@@ -10,7 +12,7 @@ ghost use Rattle.least.specs.Least.{OnGround, Placed, inside_at, known_at, known
 use chosen::Chosen;
 
 /// A vector that may be missing; its places past the last criterion are 0.
-#[derive(Drop)]
+#[derive(Clone, Copy)]
 pub struct Best {
     pub some: bool,
     pub vector: [u64; 4],

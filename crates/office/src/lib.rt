@@ -1,4 +1,6 @@
 //! A second office in the same table: a drawn spanning tree entered in an office's half of one front table.
+#![tactic(auto)]
+
 ghost use Rattle.std.specs.Prelude.{◌≡◌, ◌*◌, ◌<◌, ◌≤◌, eqb};
 ghost use Rattle.table.specs.Answers.{entering_of};
 ghost use Rattle.offices.specs.Offices.{office_call, tables_fit};
@@ -9,7 +11,7 @@ use paths::Path;
 use table::Entered;
 
 /// The answer of Office: whether the vector was entered, or met by a row, and how many rows of the half are filled now.
-#[derive(Drop)]
+#[derive(Clone, Copy)]
 pub enum OfficeAnswer {
     Rows { entered: bool, count: usize },
     Refused(u8),

@@ -1,4 +1,6 @@
 //! Order: the minimal path of a drawn spanning tree.
+#![tactic(auto)]
+
 ghost use Rattle.std.specs.Prelude.{◌≡◌, length, take};
 ghost use Rattle.operations.specs.Operations.{order_call};
 ghost use Rattle.paths.specs.Path.{keys_of, rows_in};
@@ -7,7 +9,7 @@ ghost use Rattle.order.specs.Answers.{ordered_of};
 use paths::Path;
 
 /// The answer of Order: the path stands in the buffer.
-#[derive(Drop)]
+#[derive(Clone, Copy)]
 pub enum Ordered {
     Path,
     Refused(u8),

@@ -1,5 +1,7 @@
 //! Page: the next trees of the list, as many as remain and fit.
 //! What the functions below `page` are given is the chart of a file (crate start); what they answer stands in specs/Beginning.antt.
+#![tactic(auto)]
+
 ghost use Rattle.std.specs.Prelude.{◌≡◌, true, List, ℕ};
 ghost use Rattle.lists.proofs.Members.{◌∈◌};
 ghost use Rattle.chart.proofs.Charts.{Charts};
@@ -18,7 +20,7 @@ use paths::Path;
 use walk::Next;
 
 /// The answer of Page: how many trees were written, and whether a tree follows.
-#[derive(Drop)]
+#[derive(Clone, Copy)]
 pub enum PageAnswer {
     Trees { count: usize, more: bool },
     Refused(u8),
@@ -39,7 +41,7 @@ fn seen_listed(chart: &[u64; chart::LENGTH], start: &[u16], path: Path) -> bool
 }
 
 // What a call begins with: whether the network has a tree, the number of the first check of the start that is not met, 0 where there is none, and what comes first behind it.
-#[derive(Drop)]
+#[derive(Clone, Copy)]
 struct Begun {
     tree: bool,
     number: u8,

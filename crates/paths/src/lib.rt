@@ -1,11 +1,13 @@
 //! A growing path by value: the rows of its steps, the nodes entered by place, and the places of the pivots.
 //! specs/Path.antt says which list of keys a path stands for.
+#![tactic(auto)]
+
 ghost use Rattle.std.specs.Prelude.{◌≡◌, [], get_or, take};
 ghost use Rattle.lists.specs.Lists.{same};
 ghost use Rattle.paths.specs.Path.{entered_by, extended_by, keys_of, length_of, no_key, plant_of, rows_in};
 
 /// A path of at most 31 steps.
-#[derive(Drop)]
+#[derive(Clone, Copy)]
 pub struct Path {
     pub rows: [u16; 31],
     pub nodes: [u8; 32],

@@ -1,2 +1,3 @@
 //! Costs known only as a range (#110): definitions and laws, no code.
 #![tactic(auto)]
+

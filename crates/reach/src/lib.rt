@@ -1,4 +1,6 @@
 //! Reach: the nodes that rows which are not barred join to the plant, as a word, and how many they are.
+#![tactic(auto)]
+
 ghost use Rattle.std.specs.Prelude.{◌≡◌};
 ghost use Rattle.network.specs.Answers.{opened_of};
 ghost use Rattle.operations.specs.Operations.{reach_call};
@@ -8,7 +10,7 @@ ghost use Rattle.reach.specs.Reached.{reached_word};
 use network::Opened;
 
 /// The answer of Reach: bit p - 1 of the word stands for node p.
-#[derive(Drop)]
+#[derive(Clone, Copy)]
 pub enum ReachAnswer {
     Set { word: u32, size: u32 },
     Refused(u8),

@@ -1,6 +1,8 @@
 //! The scratch table of Front: at most so many rows, candidates behind the known rows of the lent tables.
 //! A vector that is not below the bound, or that a known row meets, is left; else it is entered. Of one row too many the last is dropped: it stays
 //! where it stands, behind the rows, and its vector is the bound.
+#![tactic(auto)]
+
 ghost use Rattle.std.specs.Prelude.{◌≡◌, ◌*◌, ◌+◌, ◌≤◌, length};
 ghost use Rattle.table.specs.Answers.{entering_of};
 ghost use Rattle.tables.specs.Tables.{below};
@@ -9,7 +11,7 @@ ghost use Rattle.scratch.specs.Scratch.{bound_in, offer_of, settled};
 use table::Entered;
 
 /// How many rows the table has, and whether a row was dropped.
-#[derive(Drop)]
+#[derive(Clone, Copy)]
 pub struct Scratch {
     pub count: usize,
     pub bounded: bool,

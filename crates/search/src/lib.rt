@@ -1,17 +1,19 @@
 //! The first legal step of a growing path: a nested search over pivot places, nodes and rows, left at the first legal step.
+#![tactic(auto)]
+
 ghost use Rattle.std.specs.Prelude.{◌≡◌};
 ghost use Rattle.chart.specs.Chart.{firsts_in, seconds_in};
 ghost use Rattle.search.specs.Search.{found_of, joins_at, step_in};
 
 /// A step of a path: from the node at a place to a node, by a row.
-#[derive(Drop)]
+#[derive(Clone, Copy)]
 pub struct Step {
     pub place: usize,
     pub node: u8,
     pub row: usize,
 }
 
-#[derive(Drop)]
+#[derive(Clone, Copy)]
 pub enum Found {
     At(Step),
     Nothing,

@@ -1,5 +1,7 @@
 //! Front by search, row by row in its own order: the next row is the least vector that the rows so far do not meet, and its witness the first path of the
 //! list with that vector. Past the capacity one more search tells whether the rows are the whole front.
+#![tactic(auto)]
+
 ghost use Rattle.std.specs.Prelude.{◌≡◌, ◌*◌, ◌+◌, ◌<◌, ◌≤◌, ℕ, get_or, length};
 ghost use Rattle.std.proofs.Math.Seq.{paste};
 ghost use Rattle.operations.specs.Operations.{front_call};
@@ -43,7 +45,7 @@ fn limits_above(k: u8, v: [u64; 4]) -> [u64; 4]
 }
 
 // The first ends of the rows, their second ends, and the first ends of the must rows, each with 0 past the rows.
-#[derive(Drop)]
+#[derive(Clone, Copy)]
 struct Ends {
     firsts: [u8; 256],
     seconds: [u8; 256],

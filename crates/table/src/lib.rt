@@ -1,11 +1,13 @@
 //! A front table over two lent arrays in step: a vector is entered with its tree in the filled rows.
+#![tactic(auto)]
+
 ghost use Rattle.std.specs.Prelude.{◌≡◌, ◌*◌, ◌≤◌, length};
 ghost use Rattle.table.specs.Answers.{entering_of};
 ghost use Rattle.table.specs.Enter.{enter_call, filled};
 ghost use Rattle.table.specs.Parts.{Closed, place_in, staying};
 
 /// What entering came to: the tables have fewer rows than said; a row equals or dominates the vector; there is no room; the new count.
-#[derive(Drop)]
+#[derive(Clone, Copy)]
 pub enum Entered {
     Unfit,
     Met,

@@ -1,6 +1,8 @@
 //! What rows cost by tables: `kinds` has the kinds of k criteria, `leads` of each row the first row of its street, and `costs` the cost of
 //! row r in criterion c at place c * 256 + r. A row of no street is the first of its own. Sums are of at most 31 rows and fit 64 bits.
 //! Each function is equal to its model in specs/Tally.antt, on every input.
+#![tactic(auto)]
+
 ghost use Rattle.std.specs.Prelude.{◌≡◌, ◌-◌, ltb};
 ghost use Rattle.lists.specs.Lists.{pick};
 ghost use Rattle.chosen.specs.Chosen.{rows_of};
@@ -10,7 +12,7 @@ ghost use Rattle.completions.specs.Boxes.{inside as inside_of};
 use chosen::Chosen;
 
 /// Days by street, each at the place of its first row, and their sum.
-#[derive(Drop)]
+#[derive(Clone, Copy)]
 pub struct Paid {
     pub sum: u64,
     pub days: [u32; 256],

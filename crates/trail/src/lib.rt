@@ -1,5 +1,7 @@
 //! The walk in place, as it is read: a path in lent arrays, the nodes entered by place, the places of the pivots and the set of the nodes entered up to each place, beside
 //! its rows in a tree's places of a page; the turn that leads to the next path is found. specs/Trail.antt says which path they hold, and what a turn makes of it.
+#![tactic(auto)]
+
 ghost use Rattle.std.specs.Prelude.{◌≡◌, true, List, ◌<◌, get_or};
 ghost use Rattle.chart.proofs.Charts.{Charts};
 ghost use Rattle.chart.specs.Chart.{firsts_in, graph_in, musts_in, near_in, plant_in};
@@ -11,7 +13,7 @@ ghost use Rattle.grow.proofs.Leads.{MustsLead};
 ghost use Rattle.trail.specs.Trail.{Holds, TurnsTo, open_beyond};
 
 /// From which step on a path changes, with its key, and by which parallel row; row 0 where the bound moves up to that key instead.
-#[derive(Drop)]
+#[derive(Clone, Copy)]
 pub struct Turn {
     pub some: bool,
     pub at: usize,

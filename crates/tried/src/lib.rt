@@ -1,5 +1,7 @@
 //! Rows drawn in the network of a chart: whether they are a spanning tree that keeps the rows' states, and the tree's minimal path.
 //! The path is grown over the chart of the drawn rows alone; it has all nodes exactly if the rows are a spanning tree. The states are asked last.
+#![tactic(auto)]
+
 ghost use Rattle.std.specs.Prelude.{◌≡◌, [], ltb, get_or};
 ghost use Rattle.lists.specs.Lists.{all};
 ghost use Rattle.costs.specs.Network.{no_row};
@@ -14,7 +16,7 @@ use fields::{Row, State};
 use paths::Path;
 
 /// The number of the first check not met, with a path of no step; or 0, with the minimal path.
-#[derive(Drop)]
+#[derive(Clone, Copy)]
 pub struct DrawnAnswer {
     pub number: u8,
     pub path: Path,

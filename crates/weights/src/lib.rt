@@ -1,12 +1,14 @@
 //! The weights of links between nodes, held at the limit: how many ways leave a link's two nodes apart, and how many join them.
 //! What they count stands in counts' specs/Counting.antt, and what an array of them holds in its specs/Matrix.antt.
+#![tactic(auto)]
+
 ghost use Rattle.std.specs.Prelude.{◌≡◌, ◌*◌, ◌+◌, ◌<◌, min};
 ghost use Rattle.counts.specs.Counting.{behind, beside};
 ghost use Rattle.counts.specs.Matrix.{held, limit};
 ghost use Rattle.weights.specs.Weights.{add_to, place_of_pair, weight_in};
 
 /// How many ways leave two nodes apart, and how many join them.
-#[derive(Drop)]
+#[derive(Clone, Copy)]
 pub struct Weight {
     pub dropped: u32,
     pub merged: u32,
