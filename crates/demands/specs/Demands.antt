@@ -53,14 +53,13 @@ use Rattle.checks.specs.Checks.{Check, Ended, answered, first_unmet, refused}
 use Rattle.checks.proofs.Checks.{StopsAt}
 use Rattle.costs.specs.Costs.{cost_of, dominates, front, vector_less}
 use Rattle.costs.specs.Layouts.{keeps_states, must_rows}
-use Rattle.costs.specs.Network.{added_at}
 use Rattle.forests.proofs.Forest.{Forest}
 use Rattle.network_file.specs.File.{file_checks, network_of, open_of, sizes_of, within}
 use Rattle.pages.specs.Pages.{capacity, pieces, rest_after}
 use Rattle.operations.specs.Operations.{FrontTables, Fronted, Paged, Reached, cost_call, cost_checks, front_call, front_checks, graph_in}
 use Rattle.operations.specs.Operations.{layouts_in, order_call, order_checks, over, page_call, page_checks, pick_call, reach_call}
 use Rattle.operations.specs.Runs.{Call, run_of}
-use Rattle.charges.specs.Charges.{Charge, Split, charge_call, charge_checks, charged_nodes, charges_by}
+use Rattle.charges.specs.Charges.{Charge, Split, added_at, charge_call, charge_checks, charged_nodes, charges_by}
 use Rattle.counts.specs.Count.{count_call, count_checks}
 use Rattle.counts.specs.Trees.{tree_count}
 use Rattle.indexes.specs.Index.{entry_at, fetch_call, fetch_checks, index_call, index_checks}

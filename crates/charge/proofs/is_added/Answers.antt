@@ -1,7 +1,7 @@
 -- The kind byte is asked only of a criterion that the file has.
 use borrow.Author.Rules.{rules}
-use Rattle.fields.proofs.Added.{added_past, added_within}
-use Rattle.fields.proofs.is_added.Goals as goal
+use Rattle.charge.proofs.Laws.{added_past, added_within}
+use Rattle.charge.proofs.is_added.Goals as goal
 
 pub header_of-header-requires : goal.header_of-header-requires
 header_of-header-requires c = search rules
