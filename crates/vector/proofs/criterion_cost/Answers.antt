@@ -1,5 +1,6 @@
 -- The criterion's byte names the rule of cost, arm by arm.
 use mathlib.Core.Path.{◌∙◌, ◌≡◌}
+use native.Mathlib.Omega.{arith}
 use borrow.Author.Tests.{ne_eqb}
 use Rattle.network_file.specs.File.{kind_of}
 use Rattle.paths.specs.Path.{rows_in}
@@ -28,7 +29,12 @@ returns-in-2 c = c.closing.ensures ∙ (rw c.in-2.is at (arm (goal.at.returns-in
 
 pub returns-in-3-to-255 : goal.returns-in-3-to-255
 unfolding kind_of
-returns-in-3-to-255 c = rw (ne_eqb _ _ c.in-3-to-255.in-3-to-255-own.rest.0.0.1, ne_eqb _ _ c.in-3-to-255.in-3-to-255-own.rest.0.1, ne_eqb _ _ c.in-3-to-255.in-3-to-255-own.rest.1) at (arm (goal.at.returns-in-3-to-255 c).After-byte_at-kind)
+returns-in-3-to-255 c =
+    let kind = c.byte_at-kind.result in
+    let added : kind ≡ 0 → ⊥ = λ e. omega arith in
+    let worst : kind ≡ 1 → ⊥ = λ e. omega arith in
+    let closing : kind ≡ 2 → ⊥ = λ e. omega arith in
+    rw (ne_eqb _ _ added, ne_eqb _ _ worst, ne_eqb _ _ closing) at (arm (goal.at.returns-in-3-to-255 c).After-byte_at-kind)
 
 pub returns-else-criterion-header : goal.returns-else-criterion-header
 returns-else-criterion-header c = criterion_none _ _ _ c.header_of-header.ensures c.if-criterion-header.false
