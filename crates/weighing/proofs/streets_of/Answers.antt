@@ -6,7 +6,6 @@ use native.Mathlib.Nat.{div-one, div-zero}
 use native.Mathlib.Omega.{arith}
 use lib.Dec.{eqb, ltb}
 use lib.ListN.{get_or, length}
-use borrow.Author.Rules.{rules}
 use borrow.Author.Tests.{eq-eqb, ne_eqb}
 use Rattle.lists.specs.Lists.{both, filter_b, range}
 use Rattle.lists.proofs.Ranges.{get_or_map_range}
@@ -15,8 +14,7 @@ use Rattle.tally.specs.Tally.{cost_in, day_in, days_in, lead_in}
 use Rattle.tally.proofs.Tables.{days_at}
 use Rattle.weighing.specs.Weighing.{rate_in, share_in}
 use Rattle.weighing.proofs.Turns.{zeros_at}
-use Rattle.weighing.proofs.streets_of.Statement.{statement}
-use Rattle.weighing.proofs.streets_of.Tie as tie
+use Rattle.weighing.proofs.streets_of.Goals as goal
 
 module _ (kind : ℕ) (costs leads : List ℕ) (c : ℕ) (inc us : List ℕ) (days sharers : List ℕ) (low : (q : ℕ) → lead_in leads q < 256) where
   -- the tables give each row its rate
@@ -52,36 +50,21 @@ module _ (kind : ℕ) (costs leads : List ℕ) (c : ℕ) (inc us : List ℕ) (da
       day : get_or days lead 0 ≡ day_in costs leads c inc lead
       day = ap (λ (l : List ℕ). get_or l lead 0) paid ∙ days_at costs leads c inc lead (low q)
 
-paid_of_requires : tie.Need-paid-of-requires
-paid_of_requires c κs = search rules
-
-sharers_of_requires : tie.Need-sharers-of-requires
-sharers_of_requires c κs = search rules
-
--- leads are bytes
-lows : (c : tie.After-shared-slice-known3) (q : ℕ) → lead_in c.before.before.before.args.leads.now q < 256
-lows c q = omega (arith, c.before.shared_slice_known2.given q)
-
-returns : tie.Need-returns
+pub returns-in-0 : goal.returns-in-0
 unfolding range
-returns c =
-    let at = c.before.before.before.before.args in
-    plain at.kind at.costs.now at.leads.now at.c (rows_of at.inc) (rows_on at.flags.now) _ _ (lows c.before) c.match.keys1 refl refl
+returns-in-0 c =
+    let at = c.args in
+    plain at.kind at.costs.now at.leads.now at.c (rows_of at.inc) (rows_on at.flags.now) _ _ (λ q. omega (arith, c.type_inv.leads q)) c.in-0.is refl refl
 
-returns_2 : tie.Need-returns-2
+pub returns-in-1 : goal.returns-in-1
 unfolding range
-returns_2 c =
-    let at = c.before.before.before.before.args in
+returns-in-1 c =
+    let at = c.args in
     nothing at.kind at.costs.now at.leads.now at.c (rows_of at.inc) (rows_on at.flags.now) (map (λ i. 0) (range 0 256)) _
-    (lows c.before) c.match.keys2 refl
+    (λ q. omega (arith, c.type_inv.leads q)) c.in-1.is refl
 
-returns_3 : tie.Need-returns-3
-returns_3 c =
-    let at = c.before.before.before.before.before.before.before.args in
-    let match = c.before.before.before.match in
+pub returns-in-2-to-255 : goal.returns-in-2-to-255
+returns-in-2-to-255 c =
+    let at = c.args in
     shares at.kind at.costs.now at.leads.now at.c (rows_of at.inc) (rows_on at.flags.now) _ c.sharers_of.result
-    (lows c.before.before.before.before) match.rest.0.1 match.rest.1 c.before.before.paid_of.ensures.1 c.sharers_of.ensures
-
-pub streets_of_spec : {M : Type 1} → statement M
-streets_of_spec =
-    tie.close (tie.spec paid_of_requires sharers_of_requires returns returns_2 returns_3)
+    (λ q. omega (arith, c.type_inv.leads q)) (omega arith) (omega arith) c.paid_of-paid.ensures.1 c.sharers_of.ensures
