@@ -2,7 +2,11 @@
 //! with its version, a byte of 1 or 2. A refusal is said on the standard error, and nothing is written then.
 use edge_read::ReadAnswer;
 use edge_write::WriteAnswer;
-use libc::{STDERR_FILENO, STDIN_FILENO, STDOUT_FILENO};
+
+// The descriptors of the standard input, the standard output and the standard error.
+const STDIN_FILENO: i32 = 0;
+const STDOUT_FILENO: i32 = 1;
+const STDERR_FILENO: i32 = 2;
 
 // Writes the first bytes of the buffer to the standard output.
 fn write(out: &[u8], length: u32) {

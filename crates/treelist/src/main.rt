@@ -8,9 +8,12 @@ ghost use Rattle.treelist.specs.Given.{Given};
 
 use fields::Header;
 use fronted::FrontAnswer;
-use libc::{STDIN_FILENO, STDOUT_FILENO};
 use network::Opened;
 use page::PageAnswer;
+
+// The descriptors of the standard input and the standard output.
+const STDIN_FILENO: i32 = 0;
+const STDOUT_FILENO: i32 = 1;
 
 // A page of 64 trees.
 fn page_space() -> [u16; 1984]

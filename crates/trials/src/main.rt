@@ -1,10 +1,12 @@
 //! Document 01's trials that are not starred, some of the others, some of version 2 and of closed streets, worked by the library's functions for Rust and C.
 //! A line says what was tried, and what the call gives; or by which check it is refused, and what the buffer keeps. The file stdout has what
 //! must come out. The starred trials are theorems (crate examples).
-use libc::STDOUT_FILENO;
 use planner_c::{
     planner_cost, planner_front, planner_open, planner_order, planner_page, planner_reach,
 };
+
+// The descriptor of the standard output.
+const STDOUT_FILENO: i32 = 1;
 
 // Writes the line, which ends at a place of the buffer, and a line feed to the standard output.
 fn write(line: &mut [u8], at: usize) {
