@@ -1,5 +1,7 @@
 //! Branches of the list: whether one that begins with the first steps of a path has a tree inside limits, of those with all must rows.
 //! `heads` are the first ends of the must rows, 0 for every other row.
+#![tactic(auto)]
+
 ghost use Rattle.std.specs.Prelude.{◌≡◌, not, List, ◌-◌, ◌<◌, ℕ, eqb, ltb, get_or, take};
 ghost use Rattle.lists.specs.Lists.{either, member, range};
 ghost use Rattle.lists.proofs.Members.{◌∈◌};

@@ -1,4 +1,6 @@
 //! Connection charge: a drawn spanning tree's total of one added criterion, split among nodes 2 to n.
+#![tactic(auto)]
+
 ghost use Rattle.std.specs.Prelude.{◌≡◌, ◌<◌, ◌≤◌, length};
 ghost use Rattle.operations.specs.Operations.{over};
 ghost use Rattle.charges.specs.Charges.{borne_by, charge_call, charges_by};

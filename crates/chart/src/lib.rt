@@ -1,4 +1,6 @@
 //! A chart: what the walk works on, in one lent array of words that is made once a call. specs/Chart.antt says where what stands, and of which graph it is.
+#![tactic(auto)]
+
 ghost use Rattle.std.specs.Prelude.{◌≡◌, true, [], ◌≤◌, min, get_or};
 ghost use Rattle.costs.specs.Network.{no_row};
 ghost use Rattle.fields.specs.Fields.{row_with, state_in};

@@ -1,5 +1,7 @@
 //! Makes a chart, of one that is empty: its sizes, and its rows, each entered by its ends and its state; that of a network file. Where what stands is said in
 //! chart's specs/Chart.antt, and that a chart made so is right in its proofs (Made, Files).
+#![tactic(auto)]
+
 ghost use Rattle.std.specs.Prelude.{◌≡◌, [], ◌+◌, ◌-◌, ◌≤◌};
 ghost use Rattle.fields.specs.Fields.{row_with, state_in};
 ghost use Rattle.network_file.specs.File.{network_of};

@@ -1,5 +1,7 @@
 //! Rows that are chosen, by value and in their sequence: at most 31, as many as a spanning tree of 32 nodes has.
 //! specs/Chosen.antt says which list they are, and which rows an array of flags has.
+#![tactic(auto)]
+
 ghost use Rattle.std.specs.Prelude.{◌≡◌, [], ◌++◌, ◌∷◌, ◌≤◌, get_or, length, take};
 ghost use Rattle.chosen.specs.Chosen.{rows_of};
 

@@ -1,5 +1,7 @@
 //! What the streets of a path cost: a named street is closed once for all its rows, for the largest days among them, and the rows of street 0 count one by one.
 //! A path has at most 31 rows and a cost is below 2 to the power 32, so that the sums fit 64 bits for any file.
+#![tactic(auto)]
+
 ghost use Rattle.std.specs.Prelude.{◌≡◌, ◌<◌, drop};
 ghost use Rattle.lists.specs.Lists.{any};
 ghost use Rattle.costs.specs.Costs.{closing_cost, street_cost};

@@ -1,4 +1,6 @@
 //! Vectors of costs compared: whether no component is larger, the order, dominance by cases, and whether a row of a table meets a vector.
+#![tactic(auto)]
+
 ghost use Rattle.std.specs.Prelude.{◌≡◌};
 ghost use Rattle.costs.specs.Cases.{next_case};
 ghost use Rattle.costs.specs.Costs.{dominates as dominates_of, none_larger, vector_less};

@@ -1,4 +1,6 @@
 //! Places of tables: copied from one table into another, as many as both have; moved down within a table, or a row inserted, where they fit.
+#![tactic(auto)]
+
 ghost use Rattle.std.specs.Prelude.{◌≡◌, ◌-◌, min};
 ghost use Rattle.copies.specs.Copies.{copied, fits, inserted, moved, room};
 

@@ -1,4 +1,6 @@
 //! Cost: the cost vector of a drawn spanning tree.
+#![tactic(auto)]
+
 ghost use Rattle.std.specs.Prelude.{◌≡◌};
 ghost use Rattle.operations.specs.Operations.{cost_call};
 ghost use Rattle.cost.specs.Answers.{costed_of};

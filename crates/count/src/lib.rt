@@ -1,4 +1,6 @@
 //! Count: how many trees the list has, without listing them. The rows become links between 32 nodes, which are counted by dropping and by merging.
+#![tactic(auto)]
+
 ghost use Rattle.std.specs.Prelude.{◌≡◌, min};
 ghost use Rattle.checks.specs.Checks.{answered};
 ghost use Rattle.counts.specs.Count.{count_call};

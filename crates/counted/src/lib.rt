@@ -2,6 +2,8 @@
 //! The last node is taken away: merged along each of its links in turn, which is then dropped, until one or two are left.
 //! The functions work on a level: the first 1,024 places of two slices, where the weight of nodes a > b stands at a * 32 + b.
 //! Before a node is merged the level is copied to the next one, the 1,024 places behind it.
+#![tactic(auto)]
+
 ghost use Rattle.std.specs.Prelude.{◌≡◌, ◌*◌, ◌+◌, ◌<◌, ◌≤◌, min, suc, get_or, length};
 ghost use Rattle.counts.specs.Counting.{behind};
 ghost use Rattle.counts.specs.Matrix.{Agree, add_held, held, held_total, limit, matrix_of, move_held};

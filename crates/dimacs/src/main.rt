@@ -1,5 +1,7 @@
 //! dimacs: reads the standard input and writes to the standard output: a network file for a DIMACS edge file, or such text for a network file, which begins
 //! with its version, a byte of 1 or 2. A refusal is said on the standard error, and nothing is written then.
+#![tactic(auto)]
+
 use edge_read::ReadAnswer;
 use edge_write::WriteAnswer;
 

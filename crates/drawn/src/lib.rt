@@ -1,5 +1,7 @@
 //! Rows drawn in a network file: whether they are a spanning tree of it that keeps the rows' states, and the tree's minimal path.
 //! The file is charted once, and the rows are tried in its chart.
+#![tactic(auto)]
+
 ghost use Rattle.std.specs.Prelude.{◌≡◌};
 ghost use Rattle.network.specs.Answers.{opened_of};
 ghost use Rattle.tried.specs.Answers.{drawn_of};

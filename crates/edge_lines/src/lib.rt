@@ -1,6 +1,8 @@
 //! The lines of a DIMACS edge file, one by one: a cursor, which is a place of the text, answers the line that begins there and the cursor behind it.
 //! Numbers are held at a cap, which is above every limit of a network file and above the lines of any text. What the types below stand for is said in
 //! specs/Numbers.antt, and how a reader meets a text in specs/Reading.antt.
+#![tactic(auto)]
+
 ghost use Rattle.std.specs.Prelude.{◌≡◌, ◌*◌, ◌+◌, ◌-◌, ◌≤◌, min, length};
 ghost use Rattle.edge_file.specs.Decimal.{is_digit, leads, number_of};
 ghost use Rattle.edge_file.specs.Text.{is_comment, line_of};

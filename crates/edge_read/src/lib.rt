@@ -1,6 +1,8 @@
 //! Reading a DIMACS edge file into a network file of version 1, in a buffer that is lent: a first pass over the lines classifies and counts them, a second
 //! writes a row for each edge line. What a call comes to is said in edge_file's specs/Dimacs.antt; what a pass comes to, in specs/Scan.antt; specs/Answers.antt says
 //! what the types below stand for.
+#![tactic(auto)]
+
 ghost use Rattle.std.specs.Prelude.{◌≡◌, ◌&&◌, ◌||◌, ◌+◌, ◌<◌, ◌≤◌, length};
 ghost use Rattle.lists.specs.Lists.{concat_map};
 ghost use Rattle.checks.specs.Checks.{checked};

@@ -1,5 +1,7 @@
 //! Writing the ends of a network's rows as a DIMACS edge file, into a buffer that is lent: its length is worked out first, so that nothing is written where
 //! it does not fit. What a call comes to is said in edge_file's specs/Dimacs.antt; specs/Answers.antt says what the answer stands for.
+#![tactic(auto)]
+
 ghost use Rattle.std.specs.Prelude.{◌≡◌, ◌<◌, ◌≤◌, length};
 ghost use Rattle.std.proofs.Math.Option.{none};
 ghost use Rattle.checks.specs.Checks.{first_unmet};

@@ -1,4 +1,6 @@
 //! A tree fetched by its number: from the index's entry at or below it, by at most s - 1 moves.
+#![tactic(auto)]
+
 ghost use Rattle.std.specs.Prelude.{◌≡◌, true, List, ◌≤◌, ℕ, length};
 ghost use Rattle.std.proofs.Math.Option.{none, some};
 ghost use Rattle.checks.specs.Checks.{first_unmet};

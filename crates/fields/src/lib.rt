@@ -1,5 +1,7 @@
 //! The fields of a network file by value: its sizes, its rows, their states and their costs, of any file, accepted or not.
 //! Where they stand is said in network_file's specs/File.antt; specs/Fields.antt says what the types below stand for.
+#![tactic(auto)]
+
 ghost use Rattle.std.specs.Prelude.{◌≡◌, ◌*◌, ◌+◌, ◌≤◌, eqb};
 ghost use Rattle.lists.specs.Lists.{pick};
 ghost use Rattle.costs.specs.Costs.{cost_at};

@@ -1,5 +1,7 @@
 //! Filling a page with the trees of a chart's list, as many as remain and fit.
 //! What the functions are given and answer stands in specs/Walkable.antt; of any other chart they say nothing, but end and stay inside the page.
+#![tactic(auto)]
+
 ghost use Rattle.std.specs.Prelude.{◌≡◌, List, ℕ};
 ghost use Rattle.chart.specs.Chart.{list_in, plant_in, width_in};
 ghost use Rattle.checks.specs.Checks.{answered};

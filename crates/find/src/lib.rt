@@ -2,6 +2,8 @@
 //! A node of the search is the rows that are in and the usable rows. It is settled by the lightest choice among the usable rows, for a sum of the criteria with factors,
 //! or else split at a row of that choice: first in, by recursion, then out, in the loop. The factors are tuned from choice to choice; any would do.
 //! Which tree is found is left open; that one is found exactly if there is one is not.
+#![tactic(auto)]
+
 ghost use Rattle.std.specs.Prelude.{◌≡◌, ◌∷◌, ◌+◌, ◌-◌, ◌<◌, ◌≤◌, suc, ℕ, leb, get_or, length, take};
 ghost use Rattle.lists.specs.Lists.{pick};
 ghost use Rattle.lists.proofs.Members.{◌∈◌};

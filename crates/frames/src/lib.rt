@@ -1,5 +1,7 @@
 //! Two network files that are to have one frame, the same nodes and the same kinds in sequence: the checks of the first, those of the second, then 18.
 //! What that comes to is said in specs/Frame.antt; specs/Answers.antt says what the answer stands for.
+#![tactic(auto)]
+
 ghost use Rattle.std.specs.Prelude.{◌≡◌, ◌+◌, ◌≤◌, length};
 ghost use Rattle.std.proofs.Math.Option.{none};
 ghost use Rattle.checks.specs.Checks.{first_unmet};

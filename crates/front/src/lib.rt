@@ -1,5 +1,7 @@
 //! Front: the vectors of the network's trees that no such tree's vector dominates, ascending, each with the first tree of the list that has it.
 //! Where a network has few trees all are walked; else the rows of the front are sought one by one. Both ways keep the same promise, so that the choice is one of speed alone.
+#![tactic(auto)]
+
 ghost use Rattle.std.specs.Prelude.{◌≡◌, ◌≤◌};
 ghost use Rattle.fronted.specs.Answers.{fronted_of};
 ghost use Rattle.operations.specs.Operations.{front_call};

@@ -1,5 +1,7 @@
 //! The answer of Front, by value: for the crates that find the front in different ways, and for their callers.
 //! What each case stands for is in specs/Answers.antt.
+#![tactic(auto)]
+
 ghost use Rattle.std.specs.Prelude.{◌≡◌};
 ghost use Rattle.network.specs.Answers.{opened_of};
 ghost use Rattle.fronted.specs.Answers.{fronted_of, refused_by};

@@ -1,5 +1,7 @@
 //! Growing a path over a chart by first steps, so that all must rows stay in reach, whether a step can be skipped, and whether rows have all must rows.
 //! Each function is equal to its model in specs/Grow.antt or specs/Musts.antt.
+#![tactic(auto)]
+
 ghost use Rattle.std.specs.Prelude.{false, true, ◌≡◌};
 ghost use Rattle.lists.specs.Lists.{has_all, member, pick};
 ghost use Rattle.paths.specs.Path.{entered_by, keys_of, plant_of};

@@ -1,5 +1,7 @@
 //! An index beside the list, which is built: trees 0, s, 2 × s and so on, n - 1 places each.
 //! A first walk tells whether it fits, and ends as soon as it is known that it does not; the second writes it. So a refusal leaves the buffer as it was.
+#![tactic(auto)]
+
 ghost use Rattle.std.specs.Prelude.{◌≡◌, true, List, ◌*◌, ◌≤◌, ℕ, leb, length};
 ghost use Rattle.std.proofs.Math.Option.{none};
 ghost use Rattle.std.proofs.Math.ListN.{get_elem?};

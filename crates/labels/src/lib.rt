@@ -1,5 +1,7 @@
 //! The greedy choice over labels: nodes that rows join have the same label, and a row that is chosen gives one label to both parts.
 //! Each function is equal to its model in completions' specs/Labels.antt, on every input.
+#![tactic(auto)]
+
 ghost use Rattle.std.specs.Prelude.{◌≡◌, eqb, take};
 ghost use Rattle.lists.specs.Lists.{filter_b, pick, range};
 ghost use Rattle.chosen.specs.Chosen.{is_on, rows_of};

@@ -1,5 +1,7 @@
 //! Least: the least cost vector of the trees with all must rows that no known vector meets. A vector found in a box is lowered in one component after the
 //! other, each as far as trees are found; the boxes leave out what the known vectors meet in their components from 1 on.
+#![tactic(auto)]
+
 ghost use Rattle.std.specs.Prelude.{◌≡◌, ◌/◌, ◌<◌, min, suc, T, length, set, take};
 ghost use Rattle.costs.specs.Costs.{vector_less};
 ghost use Rattle.completions.specs.Boxes.{inside};

@@ -1,5 +1,7 @@
 //! Open, and then check 12: whether the network has a tree, with all must rows and no barred row.
 //! There is one exactly if the list of its chart has a first path.
+#![tactic(auto)]
+
 ghost use Rattle.std.specs.Prelude.{◌≡◌};
 ghost use Rattle.std.proofs.Math.Option.{none};
 ghost use Rattle.checks.specs.Checks.{first_unmet};

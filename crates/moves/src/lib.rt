@@ -1,5 +1,7 @@
 //! Moves to a next tree, from a tree of a chart's list on. Up to 64 trees at a time are listed as Page lists them, in a part of its own, and the last of them is kept.
 //! Of a chart whose trees cannot be listed, and of rows that are no tree of its list, nothing is said, but that it ends.
+#![tactic(auto)]
+
 ghost use Rattle.std.specs.Prelude.{◌≡◌, ◌+◌, ℕ};
 ghost use Rattle.std.proofs.Math.ListN.{get_elem?};
 ghost use Rattle.chart.specs.Chart.{list_in, width_in};

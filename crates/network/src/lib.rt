@@ -1,6 +1,8 @@
 //! Open: the checks of a network file, one after the other.
 //! Which checks a file meets stands in network_file's specs/File.antt; specs/Answers.antt says what the answer stands for.
 //! Behind check 4 the file's length is known (specs/Rows.antt), so that a check of the rows goes from row to row by the bytes of a row and reads them in place.
+#![tactic(auto)]
+
 ghost use Rattle.std.specs.Prelude.{◌≡◌, ◌&&◌, not, ◌*◌, ◌+◌, ◌≤◌, eqb, length};
 ghost use Rattle.network_file.specs.File.{body_met, costs_met, ends_met, kinds_met, length_met, open_of, sizes_of, sizes_sound, states_met, u32_at, version_met, within};
 ghost use Rattle.fields.specs.Fields.{sizes_in};

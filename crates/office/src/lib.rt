@@ -1,4 +1,6 @@
 //! A second office in the same table: a drawn spanning tree entered in an office's half of one front table.
+#![tactic(auto)]
+
 ghost use Rattle.std.specs.Prelude.{◌≡◌, ◌*◌, ◌<◌, ◌≤◌, eqb};
 ghost use Rattle.table.specs.Answers.{entering_of};
 ghost use Rattle.offices.specs.Offices.{office_call, tables_fit};

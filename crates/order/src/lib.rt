@@ -1,4 +1,6 @@
 //! Order: the minimal path of a drawn spanning tree.
+#![tactic(auto)]
+
 ghost use Rattle.std.specs.Prelude.{◌≡◌, length, take};
 ghost use Rattle.operations.specs.Operations.{order_call};
 ghost use Rattle.paths.specs.Path.{keys_of, rows_in};

@@ -1,5 +1,7 @@
 //! Page: the next trees of the list, as many as remain and fit.
 //! What the functions below `page` are given is the chart of a file (crate start); what they answer stands in specs/Beginning.antt.
+#![tactic(auto)]
+
 ghost use Rattle.std.specs.Prelude.{◌≡◌, true, List, ℕ};
 ghost use Rattle.lists.proofs.Members.{◌∈◌};
 ghost use Rattle.chart.proofs.Charts.{Charts};

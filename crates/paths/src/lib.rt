@@ -1,5 +1,7 @@
 //! A growing path by value: the rows of its steps, the nodes entered by place, and the places of the pivots.
 //! specs/Path.antt says which list of keys a path stands for.
+#![tactic(auto)]
+
 ghost use Rattle.std.specs.Prelude.{◌≡◌, [], get_or, take};
 ghost use Rattle.lists.specs.Lists.{same};
 ghost use Rattle.paths.specs.Path.{entered_by, extended_by, keys_of, length_of, no_key, plant_of, rows_in};

@@ -1,4 +1,6 @@
 //! Pick: the places of one tree, as a part of the caller's page.
+#![tactic(auto)]
+
 ghost use Rattle.std.specs.Prelude.{◌≡◌};
 ghost use Rattle.operations.specs.Operations.{pick_call};
 

@@ -1,5 +1,7 @@
 //! The library's functions for Rust and C: the Rust tests in tests/ call them. A slice passes as a pointer and a length.
 //! What each call returns and leaves in its buffers stands in specs/Calls.antt.
+#![tactic(auto)]
+
 ghost use Rattle.std.specs.Prelude.{◌≡◌};
 ghost use Rattle.planner_c.specs.Calls.{digit, held, planner_charge, planner_cost, planner_count, planner_dimacs_read, planner_dimacs_write, planner_fetch, planner_front};
 ghost use Rattle.planner_c.specs.Calls.{planner_index, planner_office, planner_open, planner_order, planner_page, planner_pick, planner_reach, planner_survey};

@@ -1,5 +1,7 @@
 //! Lines of text, put into a buffer that is lent: words and numbers parted by single spaces, each from a place on and as far as it fits.
 //! The longest line of the printout has under 250 bytes: a tree of 31 rows with four costs.
+#![tactic(auto)]
+
 ghost use Rattle.std.specs.Prelude.{◌≡◌, ◌∷◌, [], take};
 ghost use Rattle.printout.specs.Text.{decimal_of, filled, numbers_of, put};
 

@@ -1,4 +1,6 @@
 //! Reach: the nodes that rows which are not barred join to the plant, as a word, and how many they are.
+#![tactic(auto)]
+
 ghost use Rattle.std.specs.Prelude.{◌≡◌};
 ghost use Rattle.network.specs.Answers.{opened_of};
 ghost use Rattle.operations.specs.Operations.{reach_call};

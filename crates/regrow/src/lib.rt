@@ -1,5 +1,7 @@
 //! The walk in place, as it is written: the sets of the nodes entered, and a turn of the path, from which it is grown anew. trail's specs/Trail.antt says which path
 //! the arrays hold, and what a turn makes of it.
+#![tactic(auto)]
+
 ghost use Rattle.std.specs.Prelude.{◌≡◌, List, ◌-◌, ◌≤◌, length, take};
 ghost use Rattle.chart.specs.Chart.{plant_in, width_in};
 ghost use Rattle.graph.proofs.Growth.{rows_of};

@@ -1,5 +1,7 @@
 //! What the limits leave for the rows that are missing, mixed by the factors that mix their weights, and whether rows weigh more than that.
 //! Each function is equal to its definition in specs/Room.antt, on every input.
+#![tactic(auto)]
+
 ghost use Rattle.std.specs.Prelude.{◌≡◌, map, ◌*◌, ◌-◌, ◌≤◌, pred, ltb, get_or};
 ghost use Rattle.lists.specs.Lists.{pick, sum};
 ghost use Rattle.chosen.specs.Chosen.{rows_of};

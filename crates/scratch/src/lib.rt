@@ -1,6 +1,8 @@
 //! The scratch table of Front: at most so many rows, candidates behind the known rows of the lent tables.
 //! A vector that is not below the bound, or that a known row meets, is left; else it is entered. Of one row too many the last is dropped: it stays
 //! where it stands, behind the rows, and its vector is the bound.
+#![tactic(auto)]
+
 ghost use Rattle.std.specs.Prelude.{◌≡◌, ◌*◌, ◌+◌, ◌≤◌, length};
 ghost use Rattle.table.specs.Answers.{entering_of};
 ghost use Rattle.tables.specs.Tables.{below};

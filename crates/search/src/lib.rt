@@ -1,4 +1,6 @@
 //! The first legal step of a growing path: a nested search over pivot places, nodes and rows, left at the first legal step.
+#![tactic(auto)]
+
 ghost use Rattle.std.specs.Prelude.{◌≡◌};
 ghost use Rattle.chart.specs.Chart.{firsts_in, seconds_in};
 ghost use Rattle.search.specs.Search.{found_of, joins_at, step_in};

@@ -1,4 +1,6 @@
 //! Reading a slice at any place: past its end there is 0.
+#![tactic(auto)]
+
 ghost use Rattle.std.specs.Prelude.{◌≡◌, get_or};
 
 /// The byte at a place; 0 past the end.

@@ -1,5 +1,7 @@
 //! Front by search, row by row in its own order: the next row is the least vector that the rows so far do not meet, and its witness the first path of the
 //! list with that vector. Past the capacity one more search tells whether the rows are the whole front.
+#![tactic(auto)]
+
 ghost use Rattle.std.specs.Prelude.{◌≡◌, ◌*◌, ◌+◌, ◌<◌, ◌≤◌, ℕ, get_or, length};
 ghost use Rattle.std.proofs.Math.Seq.{paste};
 ghost use Rattle.operations.specs.Operations.{front_call};

@@ -1,5 +1,7 @@
 //! What a growing path still reaches: the nodes that a legal step enters, and the spread from there; by any rows, or by must rows alone.
 //! Sets of nodes are words (crate words). Each function is equal to its model in specs/Spread.antt, over the neighbours of the chart.
+#![tactic(auto)]
+
 ghost use Rattle.std.specs.Prelude.{◌≡◌};
 ghost use Rattle.chart.specs.Chart.{limit_in, near_in};
 ghost use Rattle.spread.specs.Spread.{brought_by, open_at, seeds_of, spread_of};

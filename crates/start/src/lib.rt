@@ -1,5 +1,7 @@
 //! A path that is handed over to go on from: the number of its first check that is not met.
 //! What the function is given and answers stands in specs/Start.antt.
+#![tactic(auto)]
+
 ghost use Rattle.std.specs.Prelude.{◌≡◌, List, ℕ};
 ghost use Rattle.checks.specs.Checks.{first_unmet};
 ghost use Rattle.network_file.specs.File.{network_of};

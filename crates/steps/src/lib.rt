@@ -1,4 +1,6 @@
 //! The steps of a path in a network file: how many there are, and of each its row, its cost in a criterion and its street.
+#![tactic(auto)]
+
 ghost use Rattle.std.specs.Prelude.{◌≡◌, ◌≤◌, max, length};
 ghost use Rattle.costs.specs.Costs.{cost_at};
 ghost use Rattle.costs.specs.Network.{row_at};

@@ -1,5 +1,7 @@
 //! A newer survey over an older, as one network file of version 2 in a buffer that is lent: the older rows that stand are counted first, so that nothing is written
 //! where it does not fit. What a call comes to is said in surveys' specs/Surveys.antt; specs/Answers.antt says what the answer stands for.
+#![tactic(auto)]
+
 ghost use Rattle.std.specs.Prelude.{◌≡◌, ◌&&◌, ◌||◌, ◌≤◌, eqb, length, take};
 ghost use Rattle.std.proofs.Math.Option.{none};
 ghost use Rattle.lists.specs.Lists.{concat_map};

@@ -1,4 +1,6 @@
 //! A front table over two lent arrays in step: a vector is entered with its tree in the filled rows.
+#![tactic(auto)]
+
 ghost use Rattle.std.specs.Prelude.{◌≡◌, ◌*◌, ◌≤◌, length};
 ghost use Rattle.table.specs.Answers.{entering_of};
 ghost use Rattle.table.specs.Enter.{enter_call, filled};

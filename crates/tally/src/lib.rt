@@ -1,6 +1,8 @@
 //! What rows cost by tables: `kinds` has the kinds of k criteria, `leads` of each row the first row of its street, and `costs` the cost of
 //! row r in criterion c at place c * 256 + r. A row of no street is the first of its own. Sums are of at most 31 rows and fit 64 bits.
 //! Each function is equal to its model in specs/Tally.antt, on every input.
+#![tactic(auto)]
+
 ghost use Rattle.std.specs.Prelude.{◌≡◌, ◌-◌, ltb};
 ghost use Rattle.lists.specs.Lists.{pick};
 ghost use Rattle.chosen.specs.Chosen.{rows_of};

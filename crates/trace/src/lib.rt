@@ -1,4 +1,6 @@
 //! The path that a sequence of rows makes: the places of a tree read back from a page.
+#![tactic(auto)]
+
 ghost use Rattle.std.specs.Prelude.{◌≡◌, ◌<◌};
 ghost use Rattle.chart.specs.Chart.{plant_in};
 ghost use Rattle.paths.specs.Path.{keys_of, plant_of};

@@ -1,5 +1,7 @@
 //! The walk in place, as it is read: a path in lent arrays, the nodes entered by place, the places of the pivots and the set of the nodes entered up to each place, beside
 //! its rows in a tree's places of a page; the turn that leads to the next path is found. specs/Trail.antt says which path they hold, and what a turn makes of it.
+#![tactic(auto)]
+
 ghost use Rattle.std.specs.Prelude.{◌≡◌, true, List, ◌<◌, get_or};
 ghost use Rattle.chart.proofs.Charts.{Charts};
 ghost use Rattle.chart.specs.Chart.{firsts_in, graph_in, musts_in, near_in, plant_in};

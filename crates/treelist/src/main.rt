@@ -1,6 +1,8 @@
 //! treelist: reads a network file from the standard input and prints its trees, in list order, and its front (document 01).
 //! Pages of 64 trees, a front of 512 rows; of a longer input the first 65,536 bytes are the file.
 //! The lines stand one behind the other in a buffer, `out` up to the place `at`, which is written where the next may not fit, behind the list and at the end.
+#![tactic(auto)]
+
 ghost use Rattle.std.specs.Prelude.{◌≡◌, [], ◌*◌, ◌+◌, ◌-◌, ◌^◌, ◌≤◌, min, length, replicate, take};
 ghost use Rattle.operations.specs.Operations.{layouts_in, page_call};
 ghost use Rattle.page.specs.Answers.{paged_of};

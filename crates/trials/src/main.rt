@@ -1,6 +1,8 @@
 //! Document 01's trials that are not starred, some of the others, some of version 2 and of closed streets, worked by the library's functions for Rust and C.
 //! A line says what was tried, and what the call gives; or by which check it is refused, and what the buffer keeps. The file stdout has what
 //! must come out. The starred trials are theorems (crate examples).
+#![tactic(auto)]
+
 use planner_c::{
     planner_cost, planner_front, planner_open, planner_order, planner_page, planner_reach,
 };

@@ -1,5 +1,7 @@
 //! Rows drawn in the network of a chart: whether they are a spanning tree that keeps the rows' states, and the tree's minimal path.
 //! The path is grown over the chart of the drawn rows alone; it has all nodes exactly if the rows are a spanning tree. The states are asked last.
+#![tactic(auto)]
+
 ghost use Rattle.std.specs.Prelude.{◌≡◌, [], ltb, get_or};
 ghost use Rattle.lists.specs.Lists.{all};
 ghost use Rattle.costs.specs.Network.{no_row};

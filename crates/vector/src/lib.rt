@@ -1,5 +1,7 @@
 //! The cost vector of a path: for each criterion what its kind makes of the costs of the path's rows.
 //! A path has at most 31 rows and a cost is below 2 to the power 32, so that the sums fit 64 bits for any file.
+#![tactic(auto)]
+
 ghost use Rattle.std.specs.Prelude.{◌≡◌};
 ghost use Rattle.costs.specs.Costs.{added_cost, worst_cost};
 ghost use Rattle.network_file.specs.File.{network_of};

@@ -1,5 +1,7 @@
 //! The walk over the list of a chart, the minimal paths that have all must rows: the first path, the next behind all that begin alike, and whether a path's steps are legal.
 //! Each function is equal to its model in specs/Walk.antt or specs/Climbing.antt, on every input; proofs/Behind.antt and proofs/Climbing.antt say what these are of the list.
+#![tactic(auto)]
+
 ghost use Rattle.std.specs.Prelude.{◌≡◌};
 ghost use Rattle.chart.specs.Chart.{plant_in};
 ghost use Rattle.paths.specs.Path.{keys_of, plant_of};

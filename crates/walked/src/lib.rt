@@ -1,5 +1,7 @@
 //! Front by walking the whole list, for networks with few trees.
 //! Passes over the list: rows known to be final stand in the lent tables, candidates behind them in a scratch table of the function's own.
+#![tactic(auto)]
+
 ghost use Rattle.std.specs.Prelude.{◌≡◌, ◌+◌, length};
 ghost use Rattle.costs.specs.Costs.{cost_of};
 ghost use Rattle.chart.specs.Chart.{width_in};

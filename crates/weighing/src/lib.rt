@@ -1,6 +1,8 @@
 //! Rows weighed by all criteria that add up, each times a factor. An added criterion weighs by costs, closing by shares: what a row costs above the days that its
 //! street has paid, over the number of usable rows that cost more than that. Weights are whole numbers of parts, of which 840 make one.
 //! Each function is equal to its definition in specs/Weighing.antt, on every input.
+#![tactic(auto)]
+
 ghost use Rattle.std.specs.Prelude.{◌≡◌, ◌*◌, ◌+◌, ◌-◌, ◌<◌, ◌≤◌, ℕ, eqb, ltb, get_or, length};
 ghost use Rattle.lists.specs.Lists.{both, filter_b, pick};
 ghost use Rattle.chosen.specs.Chosen.{is_on, rows_of, rows_on};

@@ -1,5 +1,7 @@
 //! The weights of links between nodes, held at the limit: how many ways leave a link's two nodes apart, and how many join them.
 //! What they count stands in counts' specs/Counting.antt, and what an array of them holds in its specs/Matrix.antt.
+#![tactic(auto)]
+
 ghost use Rattle.std.specs.Prelude.{◌≡◌, ◌*◌, ◌+◌, ◌<◌, min};
 ghost use Rattle.counts.specs.Counting.{behind, beside};
 ghost use Rattle.counts.specs.Matrix.{held, limit};

@@ -1,4 +1,6 @@
 //! Sets of numbers below 64, each a word.
+#![tactic(auto)]
+
 ghost use Rattle.std.specs.Prelude.{◌≡◌};
 ghost use Rattle.words.specs.Words as words;
 
