@@ -253,8 +253,8 @@ pub extern "C" fn planner_front(
     witnesses: &mut [u16],
     answer: &mut [u32],
 ) -> u32
-    ensures { record { code = result; buffers = record { lent = record { costs = costs.exit.now; witnesses = witnesses.new }; answer = answer.new } }
-        ≡ planner_front file.now costs.entry.now witnesses.old answer.old }
+    ensures { record { code = result; buffers = record { lent = record { costs = costs.new; witnesses = witnesses.new }; answer = answer.new } }
+        ≡ planner_front file.now costs.old witnesses.old answer.old }
 {
     if answer.len() < 2 {
         return 255;
@@ -284,9 +284,9 @@ pub extern "C" fn planner_office(
     filled2: u64,
     answer: &mut [u32],
 ) -> u32
-    ensures { record { code = result; buffers = record { lent = record { costs = costs.exit.now; witnesses = witnesses.new }; answer = answer.new } }
+    ensures { record { code = result; buffers = record { lent = record { costs = costs.new; witnesses = witnesses.new }; answer = answer.new } }
         ≡ planner_office file.now rows.now office h (record { first = filled1; second = filled2 })
-        (record { costs = costs.entry.now; witnesses = witnesses.old }) answer.old }
+        (record { costs = costs.old; witnesses = witnesses.old }) answer.old }
 {
     if answer.len() < 2 {
         return 255;
