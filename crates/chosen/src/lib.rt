@@ -6,7 +6,7 @@ ghost use Rattle.std.specs.Prelude.{◌≡◌, [], ◌++◌, ◌∷◌, ◌≤�
 ghost use Rattle.chosen.specs.Chosen.{rows_of};
 
 /// Rows in a sequence.
-#[derive(Drop)]
+#[derive(Clone, Copy)]
 pub struct Chosen {
     pub rows: [u8; 31],
     pub len: usize,

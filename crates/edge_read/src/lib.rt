@@ -25,7 +25,7 @@ pub enum ReadAnswer {
 
 // What the lines have said so far: whether one was of no form or in the wrong place, whether the `p` line was met, its numbers, how many edge lines, and whether
 // their ends are nodes and differ.
-#[derive(Drop)]
+#[derive(Clone, Copy)]
 struct Tally {
     bad: bool,
     seen: bool,

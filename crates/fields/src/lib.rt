@@ -11,7 +11,7 @@ ghost use Rattle.network_file.specs.File.{byte_at, length_field, network_of, row
 ghost use Rattle.fields.specs.Fields.{added_byte, row_with, sizes_in, state_in, state_named};
 
 /// The nodes, the rows and the criteria of a network file.
-#[derive(Drop)]
+#[derive(Clone, Copy)]
 pub struct Header {
     pub n: u8,
     pub m: u16,

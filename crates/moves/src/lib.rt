@@ -17,7 +17,7 @@ pub fn is_spacing(spacing: u32) -> bool
 }
 
 /// A tree that may be missing: its rows stand in the first places.
-#[derive(Drop)]
+#[derive(Clone, Copy)]
 pub struct Tree {
     pub some: bool,
     pub rows: [u16; 31],

@@ -7,7 +7,7 @@ ghost use Rattle.lists.specs.Lists.{same};
 ghost use Rattle.paths.specs.Path.{entered_by, extended_by, keys_of, length_of, no_key, plant_of, rows_in};
 
 /// A path of at most 31 steps.
-#[derive(Drop)]
+#[derive(Clone, Copy)]
 pub struct Path {
     pub rows: [u16; 31],
     pub nodes: [u8; 32],

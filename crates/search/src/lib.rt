@@ -6,7 +6,7 @@ ghost use Rattle.chart.specs.Chart.{firsts_in, seconds_in};
 ghost use Rattle.search.specs.Search.{found_of, joins_at, step_in};
 
 /// A step of a path: from the node at a place to a node, by a row.
-#[derive(Drop)]
+#[derive(Clone, Copy)]
 pub struct Step {
     pub place: usize,
     pub node: u8,
