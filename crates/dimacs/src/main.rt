@@ -7,7 +7,9 @@ use edge_write::WriteAnswer;
 
 // The descriptors of the standard input, the standard output and the standard error.
 const STDIN_FILENO: i32 = 0;
+
 const STDOUT_FILENO: i32 = 1;
+
 const STDERR_FILENO: i32 = 2;
 
 // Writes the first bytes of the buffer to the standard output.

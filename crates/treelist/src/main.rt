@@ -15,6 +15,7 @@ use page::PageAnswer;
 
 // The descriptors of the standard input and the standard output.
 const STDIN_FILENO: i32 = 0;
+
 const STDOUT_FILENO: i32 = 1;
 
 // A page of 64 trees.
