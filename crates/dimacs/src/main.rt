@@ -5,11 +5,13 @@
 use edge_read::ReadAnswer;
 use edge_write::WriteAnswer;
 
-// The descriptors of the standard input, the standard output and the standard error.
+// The descriptor of the standard input.
 const STDIN_FILENO: i32 = 0;
 
+// The descriptor of the standard output.
 const STDOUT_FILENO: i32 = 1;
 
+// The descriptor of the standard error.
 const STDERR_FILENO: i32 = 2;
 
 // Writes the first bytes of the buffer to the standard output.

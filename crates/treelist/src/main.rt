@@ -13,9 +13,10 @@ use fronted::FrontAnswer;
 use network::Opened;
 use page::PageAnswer;
 
-// The descriptors of the standard input and the standard output.
+// The descriptor of the standard input.
 const STDIN_FILENO: i32 = 0;
 
+// The descriptor of the standard output.
 const STDOUT_FILENO: i32 = 1;
 
 // A page of 64 trees.
