@@ -1,5 +1,5 @@
 -- The criterion's byte names the rule of cost, arm by arm.
-use mathlib.Core.Path.{◌∙◌, ◌≡◌}
+use mathlib.Core.Path.{◌≡◌}
 use native.Mathlib.Omega.{arith}
 use borrow.Author.Tests.{ne_eqb}
 use Rattle.network_file.specs.File.{kind_of}
@@ -17,15 +17,15 @@ arm c = criterion_byte _ _ _ c.header_of-header.ensures c.if-criterion-header.tr
 
 pub returns-in-0 : goal.returns-in-0
 unfolding kind_of
-returns-in-0 c = c.added.ensures ∙ (rw c.in-0.is at (arm (goal.at.returns-in-0 c).After-byte_at-kind))
+returns-in-0 c = let rule = rw c.in-0.is at (arm (goal.at.returns-in-0 c).After-byte_at-kind) in cc
 
 pub returns-in-1 : goal.returns-in-1
 unfolding kind_of
-returns-in-1 c = c.worst.ensures ∙ (rw c.in-1.is at (arm (goal.at.returns-in-1 c).After-byte_at-kind))
+returns-in-1 c = let rule = rw c.in-1.is at (arm (goal.at.returns-in-1 c).After-byte_at-kind) in cc
 
 pub returns-in-2 : goal.returns-in-2
 unfolding kind_of
-returns-in-2 c = c.closing.ensures ∙ (rw c.in-2.is at (arm (goal.at.returns-in-2 c).After-byte_at-kind))
+returns-in-2 c = let rule = rw c.in-2.is at (arm (goal.at.returns-in-2 c).After-byte_at-kind) in cc
 
 pub returns-in-3-to-255 : goal.returns-in-3-to-255
 unfolding kind_of
