@@ -51,7 +51,7 @@ returns-then-seen_listed c f o =
     record {
       tree = tree;
       number = listed_met o start listed;
-      (goal.at.returns-then-seen_listed c).After-after-next = λ t n. behind (goal.at.returns-then-seen_listed c).After-after-next f o tree (λ some_rows. listed);
+      next = λ t n. behind (goal.at.returns-then-seen_listed c).After-after-next f o tree (λ some_rows. listed);
     }
 
 pub returns : goal.returns
@@ -63,7 +63,7 @@ returns c f o =
     record {
       tree = tree;
       number = number;
-      (goal.at.returns c).After-after-next = λ t n.
+      next = λ t n.
           let met : first_unmet (start_checks (network_of f) start) ≡ none = number ∙ (rw (eq-eqb _ 0 n)) in
           behind (goal.at.returns c).After-after-next f o (tree ∙ t) (start_given o start met);
     }

@@ -1,7 +1,7 @@
 -- Each check that is not met ends the call with its number; where all are met, the chart's trees can be listed, and what fills the page answers the call.
 use mathlib.Core.Path.{◌∙◌, ◌≡◌, ap, sym}
 use mathlib.Core.Option.{none}
-use borrow.Author.Tests.{eq-eqb, ne_eqb}
+use borrow.Author.Tests.{eq-eqb, ne_eqb, not-false, not-true}
 use Rattle.chart.proofs.Made.{blank}
 use Rattle.checks.specs.Checks.{Outcome, first_unmet}
 use Rattle.network.specs.Answers.{opened_of}
@@ -14,13 +14,7 @@ use Rattle.start.proofs.Given.{start_given, walk_given, width_read}
 use Rattle.page.specs.Beginning.{Beginning}
 use Rattle.page.proofs.Checks.{page_given, page_none, page_open, page_short, page_start}
 use Rattle.page.proofs.page.Goals as goal
-use Rattle.page.proofs.page.Lts as lts
-use Rattle.page.proofs.page.Reads as reads
-use Rattle.page.proofs.page.Tie as tie
-
--- what is known at the places that several answers share
-abbrev After-begin-begun : Type 0
-After-begin-begun = lts.After-begin tie.the-claims reads.Pre reads.Post
+use Rattle.page.proofs.page.Goals.{After-begin-begun}
 
 pub returns-in_default : goal.returns-in_default
 returns-in_default c =
@@ -32,7 +26,7 @@ returns-in_default c =
 charted : (c : After-begin-begun) → ChartOf c.args.file.now c.of_file.new.chart
 charted c =
     let opened = sym c.open-opened.ensures ∙ ap opened_of c.in-Header.is in
-    record { met = (open_answered c.args.file.now _ opened).0; lent = _; empty = blank; c.before.before = c.of_file.ensures }
+    record { met = (open_answered c.args.file.now _ opened).0; lent = _; empty = blank; made = c.of_file.ensures }
 
 begun : (c : After-begin-begun) → Beginning c.args.file.now c.of_file.new.chart c.args.start.now c.begin-begun.result
 begun c = c.begin-begun.ensures c.args.file.now (charted c)
@@ -40,25 +34,25 @@ begun c = c.begin-begun.ensures c.args.file.now (charted c)
 pub returns-then-not-begun : goal.returns-then-not-begun
 returns-then-not-begun c =
     let s = c.args in
-    page_none s.file.now s.page.now s.start.now (charted at).met ((begun at).tree ∙ c.if-not-begun.true)
+    page_none s.file.now s.page.now s.start.now (charted (goal.at.returns-then-not-begun c).After-begin-begun).met ((begun (goal.at.returns-then-not-begun c).After-begin-begun).tree ∙ not-true _ c.if-not-begun.true)
 
 pub returns-then-page-width : goal.returns-then-page-width
 returns-then-page-width c =
     let s = c.args in
-    page_short s.file.now s.page.now s.start.now (charted at).met ((begun at).tree ∙ c.if-not-begun.false)
-    (rw (← width_read (charted at), ← c.width.ensures) c.if-page-width.true)
+    page_short s.file.now s.page.now s.start.now (charted (goal.at.returns-then-page-width c).After-begin-begun).met ((begun (goal.at.returns-then-page-width c).After-begin-begun).tree ∙ not-false _ c.if-not-begun.false)
+    (rw (← width_read (charted (goal.at.returns-then-page-width c).After-begin-begun), ← c.width.ensures) c.if-page-width.true)
 
 pub returns-then-begun-ne0 : goal.returns-then-begun-ne0
 returns-then-begun-ne0 c =
     let s = c.args in
-    page_start s.file.now s.page.now s.start.now (charted at).met ((begun at).tree ∙ c.if-not-begun.false)
-    (rw (← width_read (charted at), ← c.width.ensures) c.if-page-width.false) _ ((begun at).number ∙ (rw (ne_eqb _ 0 c.if-begun-ne0.true)))
+    page_start s.file.now s.page.now s.start.now (charted (goal.at.returns-then-begun-ne0 c).After-begin-begun).met ((begun (goal.at.returns-then-begun-ne0 c).After-begin-begun).tree ∙ not-false _ c.if-not-begun.false)
+    (rw (← width_read (charted (goal.at.returns-then-begun-ne0 c).After-begin-begun), ← c.width.ensures) c.if-page-width.false) _ ((begun (goal.at.returns-then-begun-ne0 c).After-begin-begun).number ∙ (rw (ne_eqb _ 0 c.if-begun-ne0.true)))
 
 pub returns : goal.returns
 returns c =
     let s = c.args in
-    let tried = c.if-not-begun.false in
-    let some_tree_lem = (begun at).tree ∙ tried in
-    let ok : first_unmet (start_checks (network_of s.file.now) s.start.now) ≡ none = (begun at).number ∙ (rw (eq-eqb _ 0 c.if-begun-ne0.false)) in
-    page_given (charted at) s.start.now ok s.page.now _ some_tree_lem (rw (← c.width.ensures) c.if-page-width.false)
-    (c.fill_from-filled.ensures s.start.now (walk_given (charted at) some_tree_lem) (start_given (charted at) s.start.now ok) ((begun at).next tried c.if-begun-ne0.false))
+    let tried = not-false _ c.if-not-begun.false in
+    let some_tree_lem = (begun (goal.at.returns c).After-begin-begun).tree ∙ tried in
+    let ok : first_unmet (start_checks (network_of s.file.now) s.start.now) ≡ none = (begun (goal.at.returns c).After-begin-begun).number ∙ (rw (eq-eqb _ 0 c.if-begun-ne0.false)) in
+    page_given (charted (goal.at.returns c).After-begin-begun) s.start.now ok s.page.now _ some_tree_lem (rw (← c.width.ensures) c.if-page-width.false)
+    (c.fill_from-filled.ensures s.start.now (walk_given (charted (goal.at.returns c).After-begin-begun) some_tree_lem) (start_given (charted (goal.at.returns c).After-begin-begun) s.start.now ok) ((begun (goal.at.returns c).After-begin-begun).next tried c.if-begun-ne0.false))
