@@ -47,7 +47,7 @@ pub overflow_mul-places : goal.overflow_mul-places
 overflow_mul-places c = omega (arith, places_fit c.smaller-trees.result c.width-width.result (omega (arith, c.smaller-trees.ensures)) (narrow (goal.at.overflow_mul-places c).Else-width-gt31))
 
 part_bound : (c : After-smaller-trees) → c.width-width.result ≤ 31 → c.smaller-trees.result * c.width-width.result ≤ length c.loop-left.part
-part_bound c narrow' = omega (arith, places_fit _ _ (omega (arith, c.smaller-trees.ensures)) narrow', c.loop-left.invariant.part_long)
+part_bound c narrow' = omega (arith, places_fit c.smaller-trees.result c.width-width.result (omega (arith, c.smaller-trees.ensures)) narrow', c.loop-left.invariant.part_long)
 
 pub slice_bounds-part-end : goal.slice_bounds-part-end
 slice_bounds-part-end c = part_bound (goal.at.slice_bounds-part-end c).After-smaller-trees (narrow (goal.at.slice_bounds-part-end c).Else-width-gt31)
