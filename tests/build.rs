@@ -1,4 +1,4 @@
-//! Tells cargo where 'rt staticlib planner_c' writes the library.
+//! Tells cargo where 'sh tools/archive' writes the library.
 
 fn main() {
     let tests = std::env::var("CARGO_MANIFEST_DIR").unwrap();

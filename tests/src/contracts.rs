@@ -116,11 +116,13 @@ pub fn functions(source: &str) -> Vec<Function> {
     found
 }
 
-/// Whether a name stands in a text by itself.
+/// Whether a name stands in a text by itself, and not as the field of another.
 pub fn names(text: &str, name: &str) -> bool {
-    let part = |c: char| c.is_alphanumeric() || c == '_' || c == '\'' || c == '′';
-    text.match_indices(name)
-        .any(|(at, _)| !text[..at].ends_with(part) && !text[at + name.len()..].starts_with(part))
+    let part = |c: char| c.is_alphanumeric() || c == '_' || c == '\'';
+    text.match_indices(name).any(|(at, _)| {
+        let (before, behind) = (&text[..at], &text[at + name.len()..]);
+        !before.ends_with(part) && !before.ends_with('.') && !behind.starts_with(part)
+    })
 }
 
 /// Whether a `use` of this keyword brings a name from a module.
@@ -167,12 +169,8 @@ pub fn tables(demands: &str) -> Vec<Vec<Row>> {
 /// What is wrong with the contract of a row's function in the text of its crate's source, if anything is: it is to be one equation
 /// with the definition, of every parameter, for every input, and to say what each lent buffer holds afterwards.
 pub fn fault(row: &Row, source: &str) -> Option<String> {
-    let (crate_name, name) = row.function.split_once("::").unwrap();
-    let module = if crate_name == row.crate_name {
-        format!("Rattle·{crate_name}·specs.specs.{}", row.module)
-    } else {
-        format!("Rattle·{}.specs.{}", row.crate_name, row.module)
-    };
+    let (_, name) = row.function.split_once("::").unwrap();
+    let module = format!("Rattle.{}.specs.{}", row.crate_name, row.module);
     if !brings(source, "ghost use", &module, &row.definition) {
         return Some(format!(
             "{}: {} is not brought from {module}",
@@ -204,10 +202,11 @@ pub fn fault(row: &Row, source: &str) -> Option<String> {
         ));
     }
     for (param, kind) in &f.params {
-        let value = if kind.starts_with('&') {
-            format!("now ({param} .entry)")
-        } else {
-            param.clone()
+        let is_lent = kind.starts_with("&mut ");
+        let value = match kind.starts_with('&') {
+            true if is_lent => format!("{param}.old"),
+            true => format!("{param}.now"),
+            false => param.clone(),
         };
         // a record's field may have the parameter's name, and that is not the parameter
         if !names(&right.replace(&format!("{param} = "), ""), &value) {
@@ -216,7 +215,7 @@ pub fn fault(row: &Row, source: &str) -> Option<String> {
                 row.function, row.definition
             ));
         }
-        if kind.starts_with("&mut ") && !left.contains(&format!("now ({param} .exit)")) {
+        if is_lent && !names(left, &format!("{param}.new")) {
             return Some(format!(
                 "{}: nothing is said of {param} afterwards",
                 row.function

@@ -1,5 +1,5 @@
-//! The functions that the crate planner_c exports, and a safe function over each.
-//! Nothing checks these declarations against crates/planner_c/src/lib.rt: keep the two in step.
+//! The functions of the crate planner_c, as the crate planner_static exports them, and a safe function over each.
+//! Nothing checks these declarations against crates/planner_static/src/lib.rt: keep the two in step.
 
 /// What a call returns, before any check, where the answer has too few places.
 pub const SHORT_ANSWER: u32 = 255;

@@ -1,4 +1,4 @@
-//! The programs that `rt check` builds, run as programs.
+//! The programs that `rt ci` builds, or `rt run` in a program's own folder, run as programs.
 
 use std::io::Write;
 use std::process::{Child, Command, Stdio};
@@ -14,13 +14,14 @@ pub struct Written {
 
 /// Starts a program on this standard input, so that what it writes can be read.
 pub fn start(name: &str, stdin: Stdio) -> Child {
-    let program = format!("{}/../target/bin/{name}", env!("CARGO_MANIFEST_DIR"));
+    let folder = format!("crates/{name}");
+    let program = format!("{}/../{folder}/out/{name}", env!("CARGO_MANIFEST_DIR"));
     Command::new(program)
         .stdin(stdin)
         .stdout(Stdio::piped())
         .stderr(Stdio::piped())
         .spawn()
-        .unwrap_or_else(|e| panic!("target/bin/{name}: 'rt check {name}' builds it: {e}"))
+        .unwrap_or_else(|e| panic!("{folder}/out/{name}: 'rt run' in {folder} builds it: {e}"))
 }
 
 /// What a program wrote, once it has ended.

@@ -3,7 +3,7 @@
 //! the demands do not speak of, is noticed.
 
 use planner_tests::contracts::{
-    brings, crates, fault, functions, names, sources, tables, text, Row,
+    brings, crates, fault, functions, names, sources, tables, text, Function, Row,
 };
 
 fn demands() -> Vec<Vec<Row>> {
@@ -66,17 +66,44 @@ fn the_first_table_has_every_operation() {
     }
 }
 
+/// What the static library exports: all its public functions.
+fn exports() -> Vec<Function> {
+    let exports = functions(&text(&crates().join("planner_static/src/lib.rt")));
+    assert!(exports.iter().all(|f| f.exported));
+    exports
+}
+
+/// Each function of planner_c is exported under its own name, with its own parameters and its own clauses, and nothing else is.
+#[test]
+fn each_export_says_what_its_function_says() {
+    let source = text(&crates().join("planner_static/src/lib.rt"));
+    let functions = functions(&text(&crates().join("planner_c/src/lib.rt")));
+    let exports = exports();
+    assert_eq!(functions.len(), exports.len());
+    for (function, export) in functions.iter().zip(&exports) {
+        assert!(!function.exported, "{}", function.name);
+        let said = |f: &Function| {
+            let clauses = (f.requires.clone(), f.ensures.clone());
+            (f.name.clone(), f.params.clone(), clauses)
+        };
+        assert_eq!(said(export), said(function));
+        // with the name of a clause comes its meaning: both crates take it from one module
+        let (_, right) = export.ensures[0].split_once(" ≡ ").unwrap();
+        let definition = right.split(' ').next().unwrap();
+        let module = "Rattle.planner_c.specs.Calls";
+        assert!(brings(&source, "ghost use", module, definition));
+    }
+}
+
 /// The second table has every function that Rust and C can call, and each hands on the definition of an operation.
 #[test]
 fn the_second_table_hands_on_the_first() {
     let tables = demands();
-    let exported: Vec<String> = functions(&text(&crates().join("planner_c/src/lib.rt")))
-        .into_iter()
-        .filter(|f| f.exported)
+    let mut there: Vec<String> = exports()
+        .iter()
         .map(|f| format!("planner_c::{}", f.name))
         .collect();
     let mut listed: Vec<String> = tables[1].iter().map(|row| row.function.clone()).collect();
-    let mut there = exported;
     listed.sort();
     there.sort();
     assert_eq!(listed, there);
@@ -87,7 +114,7 @@ fn the_second_table_hands_on_the_first() {
             .iter()
             .find(|operation| operation.definition == row.last)
             .unwrap_or_else(|| panic!("{}: {} is of no operation", row.function, row.last));
-        let module = format!("Rattle·{}.specs.{}", operation.crate_name, operation.module);
+        let module = format!("Rattle.{}.specs.{}", operation.crate_name, operation.module);
         assert!(
             brings(&calls, "use", &module, &row.last),
             "{}",
@@ -144,16 +171,16 @@ fn no_public_function_requires_anything() {
 #[test]
 fn a_contract_that_says_something_else_is_noticed() {
     let page = [
-        ("≡ pageCall (now (file", "≡ pageOther (now (file"),
-        ("Operations.{pageCall}", "Operations.{pageChecks}"),
-        ("buffers = now (page .exit) } ≡ pageCall", "buffers = now (page .entry) } ≡ pageCall"),
-        ("≡ pageCall (now (file .entry)) (now (page .entry)) (now (start .entry))", "≡ pageCall (now (file .entry)) (now (page .entry)) []"),
-        ("pub fn page(file: &[u8], page: &mut [u16], start: &[u16]) -> PageAnswer\n", "pub fn page(file: &[u8], page: &mut [u16], start: &[u16]) -> PageAnswer\n    requires { ⌜ 0 < length (now file) ⌝ }\n"),
+        ("≡ page_call file.now", "≡ page_other file.now"),
+        ("Operations.{page_call}", "Operations.{page_checks}"),
+        ("buffers = page.new } ≡ page_call", "buffers = page.old } ≡ page_call"),
+        ("≡ page_call file.now page.old start.now", "≡ page_call file.now page.old []"),
+        ("pub fn page(file: &[u8], page: &mut [u16], start: &[u16]) -> PageAnswer\n", "pub fn page(file: &[u8], page: &mut [u16], start: &[u16]) -> PageAnswer\n    requires { 0 < length file.now }\n"),
     ];
     // a parameter that stands in a record
     let office = [
-        ("(now (rows .entry)) office h (record { first = first;", "(now (rows .entry)) office h (record { first = 0;"),
-        ("office h (record { first = first; second = second }) (record { costs = now (costs .entry); witnesses = now (witnesses .entry) }) ⌝ }\n{\n    let drawn", "office h (record { first = first; second = second }) (record { costs = []; witnesses = now (witnesses .entry) }) ⌝ }\n{\n    let drawn"),
+        ("rows.now office h (record { first = first;", "rows.now office h (record { first = 0;"),
+        ("office h (record { first = first; second = second }) (record { costs = costs.old; witnesses = witnesses.old }) }\n{\n    let drawn", "office h (record { first = first; second = second }) (record { costs = []; witnesses = witnesses.old }) }\n{\n    let drawn"),
     ];
     for (function, changes) in [("page::page", &page[..]), ("office::office", &office[..])] {
         let row = demands()[0]

@@ -1,4 +1,4 @@
-//! treelist, as `rt check` builds it, run as a program: what it prints is compared byte for byte with an independent
+//! treelist, as `rt ci` builds it, run as a program: what it prints is compared byte for byte with an independent
 //! printing of document 01's printout.
 
 use planner_tests::costs;

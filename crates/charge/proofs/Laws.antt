@@ -1,25 +1,29 @@
--- Laws of the connection charge: a charge more in the buffer (`charges_next`), and the call's end by the number of `drawn`, the buffer's length and the criterion.
-use mathlib.Core.Path.{◌∙◌, ◌≡◌, ap, sym}
-use mathlib.Core.Bool.{false, true}
+-- Laws of the connection charge: the test of a criterion (`added_within`, `added_past`, `added_known`), a charge more in the buffer (`charges_next`), and
+-- the call's end by the number of `drawn`, the buffer's length and the criterion.
+use mathlib.Core.Path.{◌∙◌, ◌≡◌, ap, refl, sym}
+use mathlib.Core.Bool.{Bool, false, true}
+use mathlib.Core.Option.{none, some}
 use mathlib.Core.List.{List, []}
 use Prim.Native.Nat.{◌+◌, ◌-◌, ◌/◌, ◌<◌, ◌≤◌, ℕ}
+use native.Mathlib.Decide.{dec_lt}
 use native.Mathlib.Nat.{div-le_self}
 use native.Mathlib.Omega.{arith}
-use lib.Dec.{leb}
+use lib.Dec.{eqb, leb, ltb}
 use lib.ListN.{length, set, take}
-use borrow.Author.Tests.{le-leb, lt-leb}
+use borrow.Author.Tests.{le-leb, le-ltb, lt-leb, lt-ltb}
+use Rattle.lists.specs.Lists.{pick}
+use Rattle.lists.proofs.Ascending.{at_past}
 use Rattle.checks.specs.Checks.{answered, first_unmet, refused}
 use Rattle.checks.proofs.Checks.{first_unmet_met, first_unmet_unmet}
 use Rattle.costs.specs.Costs.{added_cost}
-use Rattle.costs.specs.Network.{added, added_at}
+use Rattle.costs.specs.Network.{added, closing, worst}
 use Rattle.bounds.proofs.Limits.{added_most}
-use Rattle.network_file.specs.File.{Sizes, network_of, sizes_of}
-use Rattle.fields.specs.Fields.{added_byte}
-use Rattle.fields.proofs.Added.{added_known}
+use Rattle.network_file.specs.File.{Sizes, byte_at, kind_of, network_of, sizes_of}
+use Rattle.network_file.proofs.Accepted.{Accepted}
 use Rattle.operations.specs.Operations.{check, over}
 use Rattle.operations.proofs.Costs.{path_cost}
 use Rattle.operations.proofs.Over.{over_next}
-use Rattle.charges.specs.Charges.{Charge, borne_by, charge_call, charge_checks, charge_of, charged_nodes, charges_by}
+use Rattle.charges.specs.Charges.{Charge, added_at, borne_by, charge_call, charge_checks, charge_of, charged_nodes, charges_by, is_added}
 use Rattle.charges.proofs.Charges.{charge_at, charges_length}
 use Rattle.vector.proofs.Vectors.{rows_few}
 use Rattle.paths.specs.Path.{rows_in}
@@ -27,6 +31,33 @@ use Rattle.drawn.specs.Answers.{drawn_call}
 use Rattle.drawn.proofs.Answers.{Passed, answered_by, call_met, call_refused, call_short, call_stops}
 use Rattle.tried.specs.Answers.{drawn_of}
 use Rattle.tried.specs.declared.DrawnAnswer.{DrawnAnswer}
+use Rattle.charge.specs.Answers.{added_byte}
+
+-- The criterion
+
+module _ (f : List ℕ) (c : ℕ) {s : Sizes} (sizes : s ≡ sizes_of f) where
+  pub added_within : {b : ℕ} → c < s.k → b ≡ byte_at f (9 + c) → eqb b 0 ≡ added_byte f c
+  added_within h e = simp (lt-ltb c (sizes_of f).k (rw sizes at h), e)
+
+  pub added_past : s.k ≤ c → ltb c s.k ≡ added_byte f c
+  added_past h = simp (le-ltb c s.k h, le-ltb c (sizes_of f).k (rw sizes at h))
+
+-- of an accepted file the byte says the network's kind
+added_known : (f : List ℕ) → Accepted f → (c : ℕ) → added_byte f c ≡ added_at (network_of f) c
+unfolding kind_of
+added_known f a c = elim (dec_lt c (sizes_of f).k) [
+  | yes h ↦ simp (lt-ltb c (sizes_of f).k h) (sym (ap is_added (a.named c h) ∙ by_byte (eqb b 0) (eqb b 1) (eqb b 2)))
+  | no h ↦ simp (le-ltb c (sizes_of f).k (omega arith)) (sym (ap is_added (at_past (network_of f).kinds c (omega (arith, a.kinds)))))
+]
+  where
+    b : ℕ
+    b = byte_at f (9 + c)
+
+    by_byte : (x y z : Bool) → is_added (pick x (some added) (pick y (some worst) (pick z (some closing) none))) ≡ x
+    by_byte true y z = refl
+    by_byte false true z = refl
+    by_byte false false true = refl
+    by_byte false false false = refl
 
 -- The charges
 
@@ -78,7 +109,7 @@ module _ (f rows : List ℕ) (d : DrawnAnswer) (asked : drawn_of d ≡ drawn_cal
             record { outcome = answered charge; buffers = over (charges_by charge (s.n - 1)) buffer } ≡ charge_call f rows criterion buffer
         unfolding charge_call charge_checks first_unmet
         charge_split {total} read e =
-            let same : total ≡ added_cost (network_of f) criterion rows = read ∙ path_cost f passed.file rows path passed.tree passed.path (network_of f) added criterion in
+            let same : total ≡ added_cost (network_of f) criterion rows = read ∙ path_cost f passed.file rows path passed.tree passed.path added criterion in
             rw (sizes, same)
             (sym (call_met f rows d asked _ _ _ buffer _ z fits
             (first_unmet_met (check 22 (added_at (network_of f) criterion)) [] (sym (added_known f passed.file criterion) ∙ e))))

@@ -4,13 +4,21 @@
 ghost use Rattle.std.specs.Prelude.{◌≡◌, ◌<◌, ◌≤◌, length};
 ghost use Rattle.operations.specs.Operations.{over};
 ghost use Rattle.charges.specs.Charges.{borne_by, charge_call, charges_by};
-ghost use Rattle.charge.specs.Answers.{charged_of};
+ghost use Rattle.charge.specs.Answers.{added_byte, charged_of};
 
 /// The answer of the connection charge: the charges stand in the buffer.
 #[derive(Clone, Copy)]
 pub enum Charged {
     Split { quotient: u32, remainder: u32 },
     Refused(u8),
+}
+
+// Whether there is such a criterion, counted from 0, and its kind is added.
+fn is_added(file: &[u8], criterion: u32) -> bool
+    ensures { result ≡ added_byte file.now criterion }
+{
+    let header = fields::header_of(file);
+    criterion < header.k as u32 && slices::byte_at(file, 9 + criterion as usize) == 0
 }
 
 // What a node bears: one more up to node remainder + 1.
@@ -51,7 +59,7 @@ pub fn charge(file: &[u8], rows: &[u16], criterion: u32, buffer: &mut [u32]) -> 
     let n = header.n as u32;
     let nodes = n - 1;
     let places = nodes as usize;
-    let added = fields::is_added(file, criterion);
+    let added = is_added(file, criterion);
     if buffer.len() < places {
         return Charged::Refused(11);
     }

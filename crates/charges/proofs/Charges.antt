@@ -14,9 +14,9 @@ use Rattle.lists.specs.Lists.{range, sum}
 use Rattle.lists.proofs.Ranges.{get_or_map_from, range_length}
 use Rattle.lists.proofs.Tests.{T_false, pick_elim}
 use Rattle.costs.specs.Costs.{added_cost, cost_by, cost_of}
-use Rattle.costs.specs.Network.{Kind, Network, added, added_at, closing, is_added, worst}
+use Rattle.costs.specs.Network.{Kind, Network, added, closing, worst}
 use Rattle.costs.proofs.Criteria.{kinds_at}
-use Rattle.charges.specs.Charges.{Charge, Split, borne_by, charge_of, charges_by}
+use Rattle.charges.specs.Charges.{Charge, Split, added_at, borne_by, charge_of, charges_by, is_added}
 
 -- The charges
 

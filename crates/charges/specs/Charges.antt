@@ -1,10 +1,12 @@
 -- Connection charge (document 02, #109): a tree's total of one added criterion is split among nodes 2 to n.
-use Rattle.std.specs.Prelude.{◌≡◌, List, [], ◌++◌, ◌∷◌, map, ◌%◌, ◌*◌, ◌+◌, ◌-◌, ◌/◌, ◌<◌, ◌≤◌, ℕ, leb, get_or, length}
+use Rattle.std.specs.Prelude.{◌≡◌, Bool, false, true, List, [], ◌++◌, ◌∷◌, map, ◌%◌, ◌*◌, ◌+◌, ◌-◌, ◌/◌, ◌<◌, ◌≤◌, ℕ, leb, get_or, length}
+use Rattle.std.proofs.Math.Option.{Option, none, some}
+use Rattle.std.proofs.Math.ListN.{get_elem?}
 use Rattle.lists.specs.Lists.{pick, range, sum}
 use Rattle.lists.proofs.Members.{◌∈◌}
 use Rattle.checks.specs.Checks.{Check, Ended, ended}
 use Rattle.costs.specs.Costs.{added_cost}
-use Rattle.costs.specs.Network.{added_at}
+use Rattle.costs.specs.Network.{Kind, Network, added, closing, worst}
 use Rattle.network_file.specs.File.{file_checks, network_of, sizes_of}
 use Rattle.operations.specs.Operations.{check, drawn_checks, over}
 
@@ -36,6 +38,16 @@ pub record Split (total nodes : ℕ) (c : Charge) : Type 0 where
   pub even : (x y : ℕ) → x ∈ charges_by c nodes → y ∈ charges_by c nodes → x ≤ y + 1
 
 -- The operation
+
+abbrev pub is_added : Option Kind → Bool
+is_added none = false
+is_added (some added) = true
+is_added (some worst) = false
+is_added (some closing) = false
+
+-- there is a criterion c, counted from 0, and its kind is added
+abbrev pub added_at : Network → ℕ → Bool
+added_at w c = is_added (get_elem? w.kinds c)
 
 -- how many nodes are charged: all but the plant
 abbrev pub charged_nodes : List ℕ → ℕ

@@ -1,3 +1,2 @@
 //! Connection charge: the definitions and their laws, with no code.
 #![tactic(auto)]
-

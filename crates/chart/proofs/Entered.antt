@@ -53,9 +53,9 @@ pub record Entered (g h : Graph) (c d : List ℕ) (r : ℕ) : Type 0 where
 
 -- the ends of row r in a graph are a and b
 module _ {g : Graph} {r a b : ℕ} (e : first_end g r ≡ a) (f : second_end g r ≡ b) {u v : ℕ} where
-  joins_ends_lem : Joins g r u v → Ends a b u v
-  joins_ends_lem (forth p q) = inl (sym e ∙ p, sym f ∙ q)
-  joins_ends_lem (back p q) = inr (sym e ∙ p, sym f ∙ q)
+  joins_ends : Joins g r u v → Ends a b u v
+  joins_ends (forth p q) = inl (sym e ∙ p, sym f ∙ q)
+  joins_ends (back p q) = inr (sym e ∙ p, sym f ∙ q)
 
   ends_join : Ends a b u v → Joins g r u v
   ends_join s = ⊎_elim (λ (p, q). forth (e ∙ p) (f ∙ q)) (λ (p, q). back (e ∙ p) (f ∙ q)) s
@@ -168,9 +168,9 @@ module _ (g h : Graph) (c : List ℕ) (r : ℕ) (row : Row) (long : length c ≡
           near = λ u v m n. let (f, t) = linked_near c r a b state long few p q u v m.1 n.1 in
               rw (same (5 + u) (inl (omega arith))) (
                 λ t. ⊎_elim (λ s. inl s) (λ s. inr (ends_join first second s)) (f t),
-                λ s. t (⊎_elim (λ t. inl t) (λ j. inr (joins_ends_lem first second j)) s),
+                λ s. t (⊎_elim (λ t. inl t) (λ j. inr (joins_ends first second j)) s),
               );
-          head = λ u v m n j. same (pair_at u v) (inr (omega arith)) ∙ pair_here c r a b state long few p q u v (joins_ends_lem first second j);
+          head = λ u v m n j. same (pair_at u v) (inr (omega arith)) ∙ pair_here c r a b state long few p q u v (joins_ends first second j);
           heads = λ u v m n j. same (pair_at u v) (inr (omega arith)) ∙ pair_other c r a b state long few p q u v m.1 n.1 (λ s. j (ends_join first second s));
           word = rw here (worded g h r a b after a b state p q (omega arith) p q first second must_first must_second);
           next = λ u v n j. rw (here, first, second) (word_next a b after a b state p q (omega arith) p q);
@@ -203,10 +203,10 @@ module _ (g h : Graph) (c : List ℕ) (r : ℕ) (row : Row) (long : length c ≡
         claimed = record {
           near = λ u v m n. let (f, t) = claimed_near linked a b whole p q u v m.0 n.1 in (
             λ t. ⊎_elim (λ s. inl (rw (kept u m.1) at s)) (λ s. inr (ends_join must_first must_second s)) (f t),
-            λ s. t (⊎_elim (λ t. inl (rw (kept u m.1) t)) (λ j. inr (joins_ends_lem must_first must_second j)) s),
+            λ s. t (⊎_elim (λ t. inl (rw (kept u m.1) t)) (λ j. inr (joins_ends must_first must_second j)) s),
           );
           old = λ v n t. claimed_old linked a b whole p q v n.1 (rw (kept 0 (omega arith)) t);
-          ends = λ u v n j. claimed_ends linked a b whole p q u v n.1 (joins_ends_lem must_first must_second j);
+          ends = λ u v n j. claimed_ends linked a b whole p q u v n.1 (joins_ends must_first must_second j);
         };
       }
 

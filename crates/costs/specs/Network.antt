@@ -1,8 +1,6 @@
 -- A network as its file gives it (document 01): nodes 1 to n, a kind for each criterion, rows from 0. Node 1 is the plant.
 -- Document 01's n is `node_count`, its m the length of `rows`, its k the length of `kinds`.
-use Rattle.std.specs.Prelude.{Bool, false, true, List, [], map, ℕ, get_or}
-use Rattle.std.proofs.Math.Option.{Option, none, some}
-use Rattle.std.proofs.Math.ListN.{get_elem?}
+use Rattle.std.specs.Prelude.{List, [], map, ℕ, get_or}
 use Rattle.lists.specs.Lists.{range}
 use Rattle.graph.specs.Graph.{Graph}
 
@@ -38,13 +36,3 @@ row_at w r = get_or w.rows r no_row
 
 abbrev pub graph_of : Network → Graph
 graph_of w = record { plant = 1; nodes = range 1 w.node_count; first_ends = map (λ r. r.first_end) w.rows; second_ends = map (λ r. r.second_end) w.rows }
-
-abbrev pub is_added : Option Kind → Bool
-is_added none = false
-is_added (some added) = true
-is_added (some worst) = false
-is_added (some closing) = false
-
--- there is a criterion c, counted from 0, and its kind is added
-abbrev pub added_at : Network → ℕ → Bool
-added_at w c = is_added (get_elem? w.kinds c)

@@ -7,15 +7,17 @@ use Prim.Native.Nat.{◌<◌, ◌≤◌, min, ℕ}
 use native.Mathlib.Omega.{arith}
 use borrow.Author.Tests.{le-leb, lt-leb}
 use lib.ListN.{length, length-map}
+use Rattle.lists.proofs.Members.{range_in}
+use Rattle.graph.specs.Graph.{first_end, second_end}
 use Rattle.checks.specs.Checks.{answered, first_unmet, refused}
 use Rattle.checks.proofs.Checks.{first_unmet_append}
 use Rattle.checks.proofs.Ended.{checked_met, checked_unmet}
 use Rattle.costs.specs.Network.{Network, Row, State}
-use Rattle.costs.proofs.Layouts.{row_count}
-use Rattle.network_file.specs.File.{file_checks, network_of, sizes_of}
-use Rattle.network_file.proofs.Accepted.{Accepted}
+use Rattle.costs.proofs.Layouts.{end_at, row_count}
+use Rattle.network_file.specs.File.{file_checks, network_of, row_in, sizes_of}
+use Rattle.network_file.proofs.Accepted.{Accepted, row_in_lem}
 use Rattle.operations.specs.Operations.{graph_in, layouts_in}
-use Rattle.operations.proofs.Files.{formed, rows_differ, rows_lie}
+use Rattle.operations.proofs.Files.{formed}
 use Rattle.counts.specs.Count.{count_call, count_checks}
 use Rattle.counts.specs.Matrix.{held_total, limit}
 use Rattle.counts.specs.States.{empty, fill_held, states_of}
@@ -36,10 +38,26 @@ module _ (f : List ℕ) (a : Accepted f) where
   long : length ss ≡ length (graph_in f).first_ends
   long = length-map w.rows (λ (row : Row). row.state) ∙ sym (row_count w)
 
+  first : (r : ℕ) → r < (sizes_of f).m → first_end (graph_in f) r ≡ (row_in f r).first_end
+  first r l = end_at w (λ x. x.first_end) refl r ∙ ap (λ (x : Row). x.first_end) (row_in_lem f r l)
+
+  second : (r : ℕ) → r < (sizes_of f).m → second_end (graph_in f) r ≡ (row_in f r).second_end
+  second r l = end_at w (λ x. x.second_end) refl r ∙ ap (λ (x : Row). x.second_end) (row_in_lem f r l)
+
   -- the rows of an accepted file lie between different nodes
   pub file_between : Between (graph_in f) (sizes_of f).n
   unfolding network_of
-  file_between = record { nodes = refl; ends = rows_lie f a; differ = rows_differ f a }
+  file_between = record {
+    nodes = refl;
+    ends = λ r l. let k = known r l in let e = a.ends r k in record {
+      first = range_in 1 (sizes_of f).n (first_end (graph_in f) r) (omega (arith, first r k, e.first_low)) (omega (arith, first r k, e.first_high));
+      second = range_in 1 (sizes_of f).n (second_end (graph_in f) r) (omega (arith, second r k, e.second_low)) (omega (arith, second r k, e.second_high));
+    };
+    differ = λ r l d. let k = known r l in (a.ends r k).differ (sym (first r k) ∙ d ∙ second r k);
+  }
+    where
+      known : (r : ℕ) → r < length (graph_in f).first_ends → r < (sizes_of f).m
+      known r l = omega (arith, row_count w, a.rows)
 
   pub count_listed : tree_count w ≡ length (layouts_in f)
   count_listed = count_rows_lem w ∙ tree_counted (graph_in f) file_between.ends (formed f a) ss long ∙ ap length (layouts_kept w)

@@ -23,7 +23,7 @@ use Rattle.checks.proofs.Checks.{first_unmet_append, first_unmet_met}
 use Rattle.checks.proofs.Ended.{checked_met, ended_met, ended_refused, ended_unmet, stops_only}
 use Rattle.costs.specs.Costs.{added_cost, cost_of}
 use Rattle.costs.specs.Layouts.{keeps_states}
-use Rattle.costs.specs.Network.{Network, added_at}
+use Rattle.costs.specs.Network.{Network}
 use Rattle.costs.proofs.Layouts.{keeps_same, layouts_mem}
 use Rattle.network_file.specs.File.{file_checks, network_of, sizes_of}
 use Rattle.network_file.proofs.Accepted.{Accepted, accepted}
@@ -32,7 +32,7 @@ use Rattle.operations.proofs.Costs.{path_costs}
 use Rattle.operations.proofs.Exists.{size_listed, some_in, some_out}
 use Rattle.operations.proofs.Files.{formed}
 use Rattle.operations.proofs.Passing.{greatest_cost}
-use Rattle.charges.specs.Charges.{Split, charge_call, charge_checks, charge_of, charged_nodes}
+use Rattle.charges.specs.Charges.{Split, added_at, charge_call, charge_checks, charge_of, charged_nodes}
 use Rattle.charges.proofs.Charges.{split, total_cost}
 use Rattle.table.specs.Enter.{Row}
 use Rattle.offices.specs.Offices.{Counts, entry_of, fits_in, half_of, half_rows, note_of, office_call, office_checks, rows_after, tables_fit, written}

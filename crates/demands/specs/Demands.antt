@@ -5,43 +5,43 @@
 -- On every input an operation equals its definition: that is its contract. The demands speak of the definitions. (tests/tests/contracts.rs holds both
 -- tables to the contracts in src/.)
 --
--- | function          | definition                      | demands |
--- |-------------------|---------------------------------|---------|
--- | network::open     | network_file File openOf        | 1       |
--- | reach::reach      | operations Operations reachCall | 1, 2    |
--- | count::count      | counts Count countCall          | 1, 2    |
--- | order::order      | operations Operations orderCall | 1, 2    |
--- | cost::cost        | operations Operations costCall  | 1, 2    |
--- | charge::charge    | charges Charges chargeCall      | 1, 2    |
--- | page::page        | operations Operations pageCall  | 1, 3    |
--- | pick::pick        | operations Operations pickCall  | 3       |
--- | index::build      | indexes Index indexCall         | 1, 3    |
--- | fetch::fetch      | indexes Index fetchCall         | 1, 3    |
--- | front::front      | operations Operations frontCall | 1, 3    |
--- | office::office    | offices Offices officeCall      | 1, 2, 3 |
--- | edge_read::read   | edge_file Dimacs dimacsCall     | 1       |
--- | edge_write::write | edge_file Dimacs textCall       | 1       |
--- | survey::survey    | surveys Surveys surveyCall      | 1       |
+-- | function          | definition                       | demands |
+-- |-------------------|----------------------------------|---------|
+-- | network::open     | network_file File open_of        | 1       |
+-- | reach::reach      | operations Operations reach_call | 1, 2    |
+-- | count::count      | counts Count count_call          | 1, 2    |
+-- | order::order      | operations Operations order_call | 1, 2    |
+-- | cost::cost        | operations Operations cost_call  | 1, 2    |
+-- | charge::charge    | charges Charges charge_call      | 1, 2    |
+-- | page::page        | operations Operations page_call  | 1, 3    |
+-- | pick::pick        | operations Operations pick_call  | 3       |
+-- | index::build      | indexes Index index_call         | 1, 3    |
+-- | fetch::fetch      | indexes Index fetch_call         | 1, 3    |
+-- | front::front      | operations Operations front_call | 1, 3    |
+-- | office::office    | offices Offices office_call      | 1, 2, 3 |
+-- | edge_read::read   | edge_file Dimacs dimacs_call     | 1       |
+-- | edge_write::write | edge_file Dimacs text_call       | 1       |
+-- | survey::survey    | surveys Surveys survey_call      | 1       |
 --
 -- The functions for Rust and C, each with the definition that it hands on:
 --
--- | function                        | definition                         | hands on   |
--- |---------------------------------|------------------------------------|------------|
--- | planner_c::planner_open         | planner_c Calls plannerOpen        | openOf     |
--- | planner_c::planner_reach        | planner_c Calls plannerReach       | reachCall  |
--- | planner_c::planner_count        | planner_c Calls plannerCount       | countCall  |
--- | planner_c::planner_order        | planner_c Calls plannerOrder       | orderCall  |
--- | planner_c::planner_cost         | planner_c Calls plannerCost        | costCall   |
--- | planner_c::planner_charge       | planner_c Calls plannerCharge      | chargeCall |
--- | planner_c::planner_page         | planner_c Calls plannerPage        | pageCall   |
--- | planner_c::planner_pick         | planner_c Calls plannerPick        | pickCall   |
--- | planner_c::planner_index_build  | planner_c Calls plannerIndex       | indexCall  |
--- | planner_c::planner_index_fetch  | planner_c Calls plannerFetch       | fetchCall  |
--- | planner_c::planner_front        | planner_c Calls plannerFront       | frontCall  |
--- | planner_c::planner_office       | planner_c Calls plannerOffice      | officeCall |
--- | planner_c::planner_dimacs_read  | planner_c Calls plannerDimacsRead  | dimacsCall |
--- | planner_c::planner_dimacs_write | planner_c Calls plannerDimacsWrite | textCall   |
--- | planner_c::planner_survey       | planner_c Calls plannerSurvey      | surveyCall |
+-- | function                        | definition                           | hands on    |
+-- |---------------------------------|--------------------------------------|-------------|
+-- | planner_c::planner_open         | planner_c Calls planner_open         | open_of     |
+-- | planner_c::planner_reach        | planner_c Calls planner_reach        | reach_call  |
+-- | planner_c::planner_count        | planner_c Calls planner_count        | count_call  |
+-- | planner_c::planner_order        | planner_c Calls planner_order        | order_call  |
+-- | planner_c::planner_cost         | planner_c Calls planner_cost         | cost_call   |
+-- | planner_c::planner_charge       | planner_c Calls planner_charge       | charge_call |
+-- | planner_c::planner_page         | planner_c Calls planner_page         | page_call   |
+-- | planner_c::planner_pick         | planner_c Calls planner_pick         | pick_call   |
+-- | planner_c::planner_index_build  | planner_c Calls planner_index        | index_call  |
+-- | planner_c::planner_index_fetch  | planner_c Calls planner_fetch        | fetch_call  |
+-- | planner_c::planner_front        | planner_c Calls planner_front        | front_call  |
+-- | planner_c::planner_office       | planner_c Calls planner_office       | office_call |
+-- | planner_c::planner_dimacs_read  | planner_c Calls planner_dimacs_read  | dimacs_call |
+-- | planner_c::planner_dimacs_write | planner_c Calls planner_dimacs_write | text_call   |
+-- | planner_c::planner_survey       | planner_c Calls planner_survey       | survey_call |
 use Rattle.std.specs.Prelude.{◌≡◌, false, ◌↔◌, List, [], ◌++◌, ◌∷◌, map, ◌%◌, ◌*◌, ◌+◌, ◌/◌, ◌<◌, ◌≤◌, min, ℕ, drop, get_or, length, take, T}
 use Rattle.std.proofs.Math.Option.{none}
 use Rattle.lists.proofs.Distinct.{Distinct}
@@ -53,14 +53,13 @@ use Rattle.checks.specs.Checks.{Check, Ended, answered, first_unmet, refused}
 use Rattle.checks.proofs.Checks.{StopsAt}
 use Rattle.costs.specs.Costs.{cost_of, dominates, front, vector_less}
 use Rattle.costs.specs.Layouts.{keeps_states, must_rows}
-use Rattle.costs.specs.Network.{added_at}
 use Rattle.forests.proofs.Forest.{Forest}
 use Rattle.network_file.specs.File.{file_checks, network_of, open_of, sizes_of, within}
 use Rattle.pages.specs.Pages.{capacity, pieces, rest_after}
 use Rattle.operations.specs.Operations.{FrontTables, Fronted, Paged, Reached, cost_call, cost_checks, front_call, front_checks, graph_in}
 use Rattle.operations.specs.Operations.{layouts_in, order_call, order_checks, over, page_call, page_checks, pick_call, reach_call}
 use Rattle.operations.specs.Runs.{Call, run_of}
-use Rattle.charges.specs.Charges.{Charge, Split, charge_call, charge_checks, charged_nodes, charges_by}
+use Rattle.charges.specs.Charges.{Charge, Split, added_at, charge_call, charge_checks, charged_nodes, charges_by}
 use Rattle.counts.specs.Count.{count_call, count_checks}
 use Rattle.counts.specs.Trees.{tree_count}
 use Rattle.indexes.specs.Index.{entry_at, fetch_call, fetch_checks, index_call, index_checks}

@@ -4,7 +4,15 @@
 
 use edge_read::ReadAnswer;
 use edge_write::WriteAnswer;
-use libc::{STDERR_FILENO, STDIN_FILENO, STDOUT_FILENO};
+
+// The descriptor of the standard input.
+const STDIN_FILENO: i32 = 0;
+
+// The descriptor of the standard output.
+const STDOUT_FILENO: i32 = 1;
+
+// The descriptor of the standard error.
+const STDERR_FILENO: i32 = 2;
 
 // Writes the first bytes of the buffer to the standard output.
 fn write(out: &[u8], length: u32) {

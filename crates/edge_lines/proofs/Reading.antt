@@ -2,7 +2,7 @@
 -- first bytes (`line_by_lem`), a number held at a cap (`capped_value`).
 use mathlib.Core.Path.{◌∙◌, ◌≡◌, ap, ap₂, refl, subst, sym}
 use mathlib.Core.Logic.{⊎_elim}
-use mathlib.Core.Bool.{Bool, not}
+use mathlib.Core.Bool.{Bool}
 use mathlib.Core.Option.{Option, none, some}
 use mathlib.Core.List.Memᴰ.{cases_cons as mem_cases}
 use mathlib.Core.List.Memᴰ.{not-nil as mem_nil}

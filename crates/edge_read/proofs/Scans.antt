@@ -11,7 +11,7 @@ use Rattle.lists.specs.Lists.{all, concat_map, filter_b}
 use Rattle.network_file.specs.File.{ends_sound}
 use Rattle.edge_file.specs.Dimacs.{row_of}
 use Rattle.edge_file.specs.Text.{Edges, Ends, Line, comment, cons_ends, edge, edges_alone, edges_by, edges_in, edges_with, is_content, other, problem}
-use Rattle.edge_read.specs.Scan.{Scan, line_bytes, scan_lines, scan_start, sound_ends}
+use Rattle.edge_read.specs.Scan.{Scan, line_bytes, scan_line, scan_lines, scan_start, sound_ends}
 
 -- a scan with no fault so far, behind the `p` line
 abbrev after : ℕ → ℕ → ℕ → Bool → Scan
@@ -24,9 +24,9 @@ bad_stays : (s : Scan) (ls : List Line) → s.bad ≡ true → (scan_lines s ls)
 unfolding scan_lines
 bad_stays s [] e = e
 bad_stays s (comment ∷ ls) e = bad_stays s ls e
-bad_stays s (problem n m ∷ ls) e = bad_stays _ ls (ap {B = Bool} (λ b. b || s.seen) e)
-bad_stays s (edge u v ∷ ls) e = bad_stays _ ls (ap {B = Bool} (λ b. b || not s.seen) e)
-bad_stays s (other ∷ ls) e = bad_stays _ ls refl
+bad_stays s (problem n m ∷ ls) e = bad_stays (scan_line s (problem n m)) ls (ap {B = Bool} (λ b. b || s.seen) e)
+bad_stays s (edge u v ∷ ls) e = bad_stays (scan_line s (edge u v)) ls (ap {B = Bool} (λ b. b || not s.seen) e)
+bad_stays s (other ∷ ls) e = bad_stays (scan_line s other) ls refl
 
 -- behind the `p` line
 abbrev ScanEnds : Option (List Ends) → ℕ → ℕ → ℕ → Bool → Scan → Type 0

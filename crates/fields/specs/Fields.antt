@@ -1,8 +1,8 @@
--- What the code's sizes, states and rows say in document 01's terms, and the test of a criterion's kind byte.
-use Rattle.std.specs.Prelude.{Bool, ◌&&◌, List, ◌+◌, ℕ, eqb, ltb}
+-- What the code's sizes, states and rows say in document 01's terms.
 use Rattle.std.proofs.Math.Option.{Option, none, some}
+use Rattle.std.specs.Prelude.{List, ℕ}
 use Rattle.costs.specs.Network as net
-use Rattle.network_file.specs.File.{Sizes, byte_at, sizes_of}
+use Rattle.network_file.specs.File.{Sizes}
 use Rattle.fields.specs.declared.ByteState.{ByteState}
 use Rattle.fields.specs.declared.ByteState.TheVariants as byte_state
 use Rattle.fields.specs.declared.Header.{Header}
@@ -25,7 +25,3 @@ state_named byte_state.Unknown = none
 -- a row by value, with the costs that it leaves out
 abbrev pub row_with : Row → List ℕ → net.Row
 row_with row costs = record { first_end = row.first; second_end = row.second; street = row.street; state = state_in row.state; costs = costs }
-
--- criterion c is one of the k, and its kind byte is that of added
-abbrev pub added_byte : List ℕ → ℕ → Bool
-added_byte f c = ltb c (sizes_of f).k && eqb (byte_at f (9 + c)) 0

@@ -8,7 +8,7 @@ ghost use Rattle.costs.specs.Costs.{cost_at};
 ghost use Rattle.costs.specs.Layouts.{is_barred, is_must};
 ghost use Rattle.costs.specs.Network.{row_at};
 ghost use Rattle.network_file.specs.File.{byte_at, length_field, network_of, row_bytes, row_start, sizes_of, state_of, state_or, state_width, u16_at, u32_at, version};
-ghost use Rattle.fields.specs.Fields.{added_byte, row_with, sizes_in, state_in, state_named};
+ghost use Rattle.fields.specs.Fields.{row_with, sizes_in, state_in, state_named};
 
 /// The nodes, the rows and the criteria of a network file.
 #[derive(Clone, Copy)]
@@ -90,14 +90,6 @@ pub fn header_of(file: &[u8]) -> Header
         m: u16_at(file, 6),
         k: slices::byte_at(file, 8),
     }
-}
-
-/// Whether there is such a criterion, counted from 0, and its kind is added.
-pub fn is_added(file: &[u8], criterion: u32) -> bool
-    ensures { result ≡ added_byte file.now criterion }
-{
-    let header = header_of(file);
-    criterion < header.k as u32 && slices::byte_at(file, 9 + criterion as usize) == 0
 }
 
 /// The state that a byte names.

@@ -63,8 +63,8 @@ fn has_few_trees(file: &[u8]) -> bool {
 
 /// Front: the first vectors of the front, as many as fit, each with the first tree of the list that has it.
 pub fn front(file: &[u8], costs: &mut [u32], witnesses: &mut [u16]) -> FrontAnswer
-    ensures { record { outcome = fronted_of result; buffers = record { costs = costs.exit.now; witnesses = witnesses.new } }
-        ≡ front_call file.now costs.entry.now witnesses.old }
+    ensures { record { outcome = fronted_of result; buffers = record { costs = costs.new; witnesses = witnesses.new } }
+        ≡ front_call file.now costs.old witnesses.old }
 {
     if has_few_trees(file) {
         return walked::front(file, costs, witnesses);

@@ -9,8 +9,8 @@ ghost use Rattle.completions.specs.Labels.{choose_few, label_at, labels_of, rela
 
 use chosen::Chosen;
 
-/// Each node by itself: node v has label v.
-pub fn own() -> [u8; 33]
+// Each node by itself: node v has label v.
+fn own() -> [u8; 33]
     ensures { result ≡ range 0 33 }
 {
     let mut labels = [0u8; 33];
@@ -22,8 +22,8 @@ pub fn own() -> [u8; 33]
     labels
 }
 
-/// The label of a node; 0 where there is no such node.
-pub fn label_at(labels: [u8; 33], v: u8) -> u8
+// The label of a node; 0 where there is no such node.
+fn label_at(labels: [u8; 33], v: u8) -> u8
     ensures { result ≡ label_at labels v }
 {
     let at = v as usize;
@@ -37,8 +37,8 @@ fn turned(x: u8, a: u8, b: u8) -> u8
     if x == a { b } else { x }
 }
 
-/// Label a becomes b.
-pub fn relabelled(labels: [u8; 33], a: u8, b: u8) -> [u8; 33]
+// Label a becomes b.
+fn relabelled(labels: [u8; 33], a: u8, b: u8) -> [u8; 33]
     ensures { result ≡ relabel a b labels }
 {
     let mut next = labels;

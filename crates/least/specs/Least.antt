@@ -27,8 +27,8 @@ OpenPast k limits = (c : ℕ) → k ≤ c → c < 4 → 0 < get_or limits c 0
 -- what holds of the vectors of the trees with all must rows, on such a ground and with such limits
 abbrev pub OnGround : (firsts seconds : List ℕ) (limit : ℕ) (kinds : List ℕ) (k : ℕ) (costs leads musts free limits : List ℕ) → ((List ℕ → Type 0) → Type 0) → Type 0
 OnGround firsts seconds limit kinds k costs leads musts free limits Holds =
-    (ground : Ground firsts seconds limit k musts free) → OpenPast k limits
-    → Holds (Of (graph_in firsts seconds limit) ground.tables.formed (table_of kinds k costs leads) musts)
+    (footing : Ground firsts seconds limit k musts free) → OpenPast k limits
+    → Holds (Of (graph_in firsts seconds limit) footing.tables.formed (table_of kinds k costs leads) musts)
 
 -- the vector of k criteria
 abbrev pub least_of : ℕ → Best → Option (List ℕ)

@@ -38,7 +38,7 @@ fn fit(
     second: usize,
 ) -> bool
     requires { (0 < k) × (k ≤ 31) × (0 < w) × (w ≤ 31) }
-    ensures { result ≡ tables_fit k w office h (record { first = first; second = second }) (record { costs = costs.entry.now; witnesses = witnesses.now }) }
+    ensures { result ≡ tables_fit k w office h (record { first = first; second = second }) (record { costs = costs.now; witnesses = witnesses.now }) }
 {
     if office == 0 {
         return false;
@@ -89,9 +89,9 @@ fn note(
     vector: &[u32],
     path: Path,
 ) -> OfficeAnswer
-    ensures { record { outcome = noted_of result; buffers = record { costs = costs.exit.now; witnesses = witnesses.new } }
+    ensures { record { outcome = noted_of result; buffers = record { costs = costs.new; witnesses = witnesses.new } }
         ≡ note_call office (record { first = first; second = second })
-        (record { costs = costs.entry.now; witnesses = witnesses.old }) (record { vector = vector.entry.now; path = rows_in path }) }
+        (record { costs = costs.old; witnesses = witnesses.old }) (record { vector = vector.now; path = rows_in path }) }
 {
     let rows = path.rows;
     let w = path.length();
@@ -118,8 +118,8 @@ pub fn office(
     first: usize,
     second: usize,
 ) -> OfficeAnswer
-    ensures { record { outcome = noted_of result; buffers = record { costs = costs.exit.now; witnesses = witnesses.new } }
-        ≡ office_call file.now rows.now office h (record { first = first; second = second }) (record { costs = costs.entry.now; witnesses = witnesses.old }) }
+    ensures { record { outcome = noted_of result; buffers = record { costs = costs.new; witnesses = witnesses.new } }
+        ≡ office_call file.now rows.now office h (record { first = first; second = second }) (record { costs = costs.old; witnesses = witnesses.old }) }
 {
     let drawn = drawn::drawn(file, rows);
     let number = drawn.number;

@@ -42,9 +42,8 @@ module _ (f : List ℕ) (a : Accepted f) (rows path : List ℕ) (tree : T (is_tr
         around,
       )
 
-  -- by any network's costs
-  pub path_cost : (w : Network) (kind : Kind) (c : ℕ) → cost_by kind w c path ≡ cost_by kind w c rows
-  path_cost w = let (once, other, within, around) = alike in kind_same w path rows once other within around
+  pub path_cost : (kind : Kind) (c : ℕ) → cost_by kind (network_of f) c path ≡ cost_by kind (network_of f) c rows
+  path_cost = let (once, other, within, around) = alike in kind_same (network_of f) path rows once other within around
 
   pub path_costs : cost_of (network_of f) path ≡ cost_of (network_of f) rows
   path_costs = let (once, other, within, around) = alike in cost_same (network_of f) path rows once other within around

@@ -1,4 +1,4 @@
-//! The library's functions for Rust and C: the Rust tests in tests/ call them. A slice passes as a pointer and a length.
+//! The library's functions for Rust and C. Rattle calls them here; the crate planner_static exports each.
 //! What each call returns and leaves in its buffers stands in specs/Calls.antt.
 #![tactic(auto)]
 
@@ -23,8 +23,7 @@ use survey::SurveyAnswer;
 
 /// Open: 0 with n, m and k in the first three places of the answer; the refusal's number; or 255 where the answer has
 /// under three places.
-#[unsafe(no_mangle)]
-pub extern "C" fn planner_open(file: &[u8], answer: &mut [u32]) -> u32
+pub fn planner_open(file: &[u8], answer: &mut [u32]) -> u32
     ensures { record { code = result; buffers = answer.new } ≡ planner_open file.now answer.old }
 {
     if answer.len() < 3 {
@@ -44,8 +43,7 @@ pub extern "C" fn planner_open(file: &[u8], answer: &mut [u32]) -> u32
 
 /// Reach: 0 with the word and the size in the first two places of the answer; the refusal's number; or 255 where the
 /// answer has under two places.
-#[unsafe(no_mangle)]
-pub extern "C" fn planner_reach(file: &[u8], answer: &mut [u32]) -> u32
+pub fn planner_reach(file: &[u8], answer: &mut [u32]) -> u32
     ensures { record { code = result; buffers = answer.new } ≡ planner_reach file.now answer.old }
 {
     if answer.len() < 2 {
@@ -64,8 +62,7 @@ pub extern "C" fn planner_reach(file: &[u8], answer: &mut [u32]) -> u32
 
 /// Count: 0 with the number of trees in the first place of the answer; the refusal's number; or 255 where the answer has no
 /// place.
-#[unsafe(no_mangle)]
-pub extern "C" fn planner_count(file: &[u8], answer: &mut [u32]) -> u32
+pub fn planner_count(file: &[u8], answer: &mut [u32]) -> u32
     ensures { record { code = result; buffers = answer.new } ≡ planner_count file.now answer.old }
 {
     if answer.len() < 1 {
@@ -82,8 +79,7 @@ pub extern "C" fn planner_count(file: &[u8], answer: &mut [u32]) -> u32
 }
 
 /// Order: 0 with the path in the first n - 1 places of the buffer, or the refusal's number.
-#[unsafe(no_mangle)]
-pub extern "C" fn planner_order(file: &[u8], rows: &[u16], buffer: &mut [u16]) -> u32
+pub fn planner_order(file: &[u8], rows: &[u16], buffer: &mut [u16]) -> u32
     ensures { record { code = result; buffers = buffer.new } ≡ planner_order file.now rows.now buffer.old }
 {
     let ordered = order::order(file, rows, buffer);
@@ -94,8 +90,7 @@ pub extern "C" fn planner_order(file: &[u8], rows: &[u16], buffer: &mut [u16]) -
 }
 
 /// Cost: 0 with the vector in the first k places of the buffer, or the refusal's number.
-#[unsafe(no_mangle)]
-pub extern "C" fn planner_cost(file: &[u8], rows: &[u16], buffer: &mut [u32]) -> u32
+pub fn planner_cost(file: &[u8], rows: &[u16], buffer: &mut [u32]) -> u32
     ensures { record { code = result; buffers = buffer.new } ≡ planner_cost file.now rows.now buffer.old }
 {
     let costed = cost::cost(file, rows, buffer);
@@ -107,8 +102,7 @@ pub extern "C" fn planner_cost(file: &[u8], rows: &[u16], buffer: &mut [u32]) ->
 
 /// Connection charge: 0 with the charges of nodes 2 to n in the first n - 1 places of the buffer, and the quotient and the
 /// remainder in the first two places of the answer; the refusal's number; or 255 where the answer has under two places.
-#[unsafe(no_mangle)]
-pub extern "C" fn planner_charge(
+pub fn planner_charge(
     file: &[u8],
     rows: &[u16],
     criterion: u32,
@@ -136,8 +130,7 @@ pub extern "C" fn planner_charge(
 }
 
 /// Pick: the length of tree t's part of the page, of which as much as fits is copied to the first places of out.
-#[unsafe(no_mangle)]
-pub extern "C" fn planner_pick(n: u32, page: &[u16], t: u64, out: &mut [u16]) -> u64
+pub fn planner_pick(n: u32, page: &[u16], t: u64, out: &mut [u16]) -> u64
     ensures { record { code = result; buffers = out.new } ≡ planner_pick n page.now t out.old }
 {
     // no byte holds it, and it is out of range
@@ -168,13 +161,7 @@ fn digit_of(mark: bool) -> u32
 
 /// Page: 0 with the count and the mark, 1 for 'more', in the first two places of the answer; the refusal's number; or
 /// 255 where the answer has under two places.
-#[unsafe(no_mangle)]
-pub extern "C" fn planner_page(
-    file: &[u8],
-    page: &mut [u16],
-    start: &[u16],
-    answer: &mut [u32],
-) -> u32
+pub fn planner_page(file: &[u8], page: &mut [u16], start: &[u16], answer: &mut [u32]) -> u32
     ensures { record { code = result; buffers = record { lent = page.new; answer = answer.new } }
         ≡ planner_page file.now page.old start.now answer.old }
 {
@@ -194,13 +181,7 @@ pub extern "C" fn planner_page(
 
 /// Builds an index of every spacing-th tree: 0 with how many trees it holds in the first place of the answer; the refusal's
 /// number; or 255 where the answer has no place.
-#[unsafe(no_mangle)]
-pub extern "C" fn planner_index_build(
-    file: &[u8],
-    spacing: u32,
-    index: &mut [u16],
-    answer: &mut [u32],
-) -> u32
+pub fn planner_index_build(file: &[u8], spacing: u32, index: &mut [u16], answer: &mut [u32]) -> u32
     ensures { record { code = result; buffers = record { lent = index.new; answer = answer.new } }
         ≡ planner_index file.now spacing index.old answer.old }
 {
@@ -219,8 +200,7 @@ pub extern "C" fn planner_index_build(
 
 /// Fetches a tree of the list by its number, from 0 on: 0 with its path in the first n - 1 places of the buffer and the moves
 /// in the first place of the answer; the refusal's number; or 255 where the answer has no place.
-#[unsafe(no_mangle)]
-pub extern "C" fn planner_index_fetch(
+pub fn planner_index_fetch(
     file: &[u8],
     spacing: u32,
     index: &[u16],
@@ -246,15 +226,14 @@ pub extern "C" fn planner_index_fetch(
 
 /// Front: 0 with the count and the mark, 1 for 'whole', in the first two places of the answer; the refusal's number; or
 /// 255 where the answer has under two places. The tree beside a vector is the first of the list that has it.
-#[unsafe(no_mangle)]
-pub extern "C" fn planner_front(
+pub fn planner_front(
     file: &[u8],
     costs: &mut [u32],
     witnesses: &mut [u16],
     answer: &mut [u32],
 ) -> u32
-    ensures { record { code = result; buffers = record { lent = record { costs = costs.exit.now; witnesses = witnesses.new }; answer = answer.new } }
-        ≡ planner_front file.now costs.entry.now witnesses.old answer.old }
+    ensures { record { code = result; buffers = record { lent = record { costs = costs.new; witnesses = witnesses.new }; answer = answer.new } }
+        ≡ planner_front file.now costs.old witnesses.old answer.old }
 {
     if answer.len() < 2 {
         return 255;
@@ -272,8 +251,7 @@ pub extern "C" fn planner_front(
 
 /// A second office in the same table: 0 with 1 for 'entered' or 0 for 'met', and the half's new filled count, in the first
 /// two places of the answer; the refusal's number; or 255 where the answer has under two places.
-#[unsafe(no_mangle)]
-pub extern "C" fn planner_office(
+pub fn planner_office(
     file: &[u8],
     rows: &[u16],
     office: u32,
@@ -284,9 +262,9 @@ pub extern "C" fn planner_office(
     filled2: u64,
     answer: &mut [u32],
 ) -> u32
-    ensures { record { code = result; buffers = record { lent = record { costs = costs.exit.now; witnesses = witnesses.new }; answer = answer.new } }
+    ensures { record { code = result; buffers = record { lent = record { costs = costs.new; witnesses = witnesses.new }; answer = answer.new } }
         ≡ planner_office file.now rows.now office h (record { first = filled1; second = filled2 })
-        (record { costs = costs.entry.now; witnesses = witnesses.old }) answer.old }
+        (record { costs = costs.old; witnesses = witnesses.old }) answer.old }
 {
     if answer.len() < 2 {
         return 255;
@@ -313,8 +291,7 @@ pub extern "C" fn planner_office(
 
 /// Reads a DIMACS edge file: 0 with the network file in the buffer and its length in bytes in the first place of the answer; the
 /// refusal's number; or 255 where the answer has no place.
-#[unsafe(no_mangle)]
-pub extern "C" fn planner_dimacs_read(text: &[u8], buffer: &mut [u8], answer: &mut [u32]) -> u32
+pub fn planner_dimacs_read(text: &[u8], buffer: &mut [u8], answer: &mut [u32]) -> u32
     ensures { record { code = result; buffers = record { lent = buffer.new; answer = answer.new } }
         ≡ planner_dimacs_read text.now buffer.old answer.old }
 {
@@ -333,8 +310,7 @@ pub extern "C" fn planner_dimacs_read(text: &[u8], buffer: &mut [u8], answer: &m
 
 /// Writes a network's ends as a DIMACS edge file: 0 with the text in the buffer and its length in bytes in the first place of the
 /// answer; the refusal's number; or 255 where the answer has no place.
-#[unsafe(no_mangle)]
-pub extern "C" fn planner_dimacs_write(file: &[u8], buffer: &mut [u8], answer: &mut [u32]) -> u32
+pub fn planner_dimacs_write(file: &[u8], buffer: &mut [u8], answer: &mut [u32]) -> u32
     ensures { record { code = result; buffers = record { lent = buffer.new; answer = answer.new } }
         ≡ planner_dimacs_write file.now buffer.old answer.old }
 {
@@ -353,13 +329,7 @@ pub extern "C" fn planner_dimacs_write(file: &[u8], buffer: &mut [u8], answer: &
 
 /// Writes a newer survey over an older as one network file: 0 with the file in the buffer and its length in bytes in the first place of
 /// the answer; the refusal's number; or 255 where the answer has no place.
-#[unsafe(no_mangle)]
-pub extern "C" fn planner_survey(
-    older: &[u8],
-    newer: &[u8],
-    buffer: &mut [u8],
-    answer: &mut [u32],
-) -> u32
+pub fn planner_survey(older: &[u8], newer: &[u8], buffer: &mut [u8], answer: &mut [u32]) -> u32
     ensures { record { code = result; buffers = record { lent = buffer.new; answer = answer.new } }
         ≡ planner_survey older.now newer.now buffer.old answer.old }
 {

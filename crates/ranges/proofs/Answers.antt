@@ -27,26 +27,29 @@ use Rattle.network_file.specs.File.{file_checks, network_of}
 use Rattle.network_file.specs.Frames.{same_frame}
 use Rattle.network_file.proofs.Accepted.{Accepted, accepted}
 use Rattle.operations.specs.Operations.{check, some_tree}
-use Rattle.operations.proofs.Files.{formed, rows_lie}
-use Rattle.ranges.specs.Calls.{closed_marks, first_added, first_costs, range_checks, range_marks, same_but_costs, same_rows_but_costs, same_shape}
+use Rattle.operations.proofs.Files.{formed}
+use Rattle.charges.specs.Charges.{added_at}
+use Rattle.ranges.specs.Calls.{first_costs, range_checks, range_marks, same_but_costs, same_rows, same_shape}
+use Rattle.ranges.specs.Closed.{closed_marks}
 use Rattle.ranges.specs.Ranges.{greatest_sum, least_sum}
 use Rattle.ranges.proofs.Choices.{at, weight_same}
+use Rattle.ranges.proofs.Ends.{rows_lie}
 use Rattle.ranges.proofs.Networks.{first_at, first_length, marks_closed}
 use Rattle.ranges.proofs.Sums.{greatest_highs, least_lows}
 
 -- What 18 and 23 say
 
-rows_shape : (k l : List Row) → T (same_rows_but_costs k l) → length k ≡ length l
-unfolding same_rows_but_costs
+rows_shape : (k l : List Row) → T (same_rows k l) → length k ≡ length l
+unfolding same_rows
 rows_shape [] [] t = refl
 rows_shape [] (y ∷ l) t = absurd t
 rows_shape (x ∷ k) [] t = absurd t
-rows_shape (x ∷ k) (y ∷ l) t = ap suc (rows_shape k l ((T-both (same_but_costs x y) (same_rows_but_costs k l)).0 t).1)
+rows_shape (x ∷ k) (y ∷ l) t = ap suc (rows_shape k l ((T-both (same_but_costs x y) (same_rows k l)).0 t).1)
 
 shape_rows : (v w : Network) → T (same_shape v w) → length v.rows ≡ length w.rows
 unfolding same_shape
 shape_rows v w t =
-    rows_shape v.rows w.rows ((T-both (same_frame v w) (same_rows_but_costs v.rows w.rows)).0 t).1
+    rows_shape v.rows w.rows ((T-both (same_frame v w) (same_rows v.rows w.rows)).0 t).1
 
 past_cost : (w : Network) (r : ℕ) → length w.rows ≤ r → cost_at w 0 r ≡ 0
 past_cost w r h = ap (λ (x : Row). get_or x.costs 0 0) (get_or-eq_default w.rows no_row {n = r} h)
@@ -69,7 +72,7 @@ module _ (low high : List ℕ) (ok : first_unmet (range_checks low high) ≡ non
   ordered = all (λ r. leb (cost_at v 0 r) (cost_at w 0 r)) (row_numbers (graph_of v))
 
   abbrev behind : List Check
-  behind = check 18 (same_shape v w) ∷ check 22 (first_added v.kinds) ∷ check 23 ordered ∷ check 12 (some_tree (layouts v)) ∷ []
+  behind = check 18 (same_shape v w) ∷ check 22 (added_at v 0) ∷ check 23 ordered ∷ check 12 (some_tree (layouts v)) ∷ []
 
   met : Met
   unfolding range_checks

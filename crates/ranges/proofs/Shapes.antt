@@ -1,12 +1,10 @@
--- What check 18 says: two networks have one shape exactly if they have the same nodes and kinds, and the same rows but for their costs (`shape-exactly`).
-use mathlib.Core.Path.{◌∙◌, ◌≡◌, ap, ap₂, refl, sym}
+-- What check 18 says: two networks have one shape exactly if they have the same nodes and kinds, and the same rows but for their costs (`shape_exactly`).
+use mathlib.Core.Path.{◌≡◌, ap, ap₂, refl}
 use mathlib.Core.Logic.{◌↔◌}
-use mathlib.Core.Bool.{◌&&◌}
 use mathlib.Core.List.{List, [], ◌∷◌, map}
-use Prim.Native.Nat.{ℕ}
 use native.Mathlib.Omega.{arith}
 use lib.Dec.{T, eqb, eqb→eq}
-use lib.ListN.{length, length-map}
+use lib.ListN.{drop, get_or, length}
 use Rattle.lists.proofs.Tests.{T-both, eq→eqb}
 use Rattle.costs.specs.Network.{Network, Row, State, barred, must, «open»}
 use Rattle.network_file.specs.Bytes.{state_number}
@@ -49,4 +47,28 @@ row_exactly x y = (
 
 pub rows_exactly : (k l : List Row) → T (same_rows k l) ↔ (map uncosted k ≡ map uncosted l)
 unfolding same_rows
-rows_exactly k l = ?
+rows_exactly [] [] = (λ t. refl, λ e. tt)
+rows_exactly [] (y ∷ l) = (λ t. absurd t, λ e. absurd (omega (arith, ap length e)))
+rows_exactly (x ∷ k) [] = (λ t. absurd t, λ e. absurd (omega (arith, ap length e)))
+rows_exactly (x ∷ k) (y ∷ l) = (
+  λ t.
+      let (a, b) = (T-both (same_but_costs x y) (same_rows k l)).0 t in
+      ap₂ ◌∷◌ ((row_exactly x y).0 a) ((rows_exactly k l).0 b),
+  λ e. (T-both (same_but_costs x y) (same_rows k l)).1 (
+    (row_exactly x y).1 (ap (λ (m : List Row). get_or m 0 (uncosted x)) e),
+    (rows_exactly k l).1 (ap (λ (m : List Row). drop 1 m) e),
+  ),
+)
+
+-- SHAPE
+pub shape_exactly : (v w : Network) → T (same_shape v w)
+    ↔ ((v.node_count ≡ w.node_count) × (v.kinds ≡ w.kinds) × (map uncosted v.rows ≡ map uncosted w.rows))
+unfolding same_shape
+shape_exactly v w = (
+  λ t.
+      let (a, b) = (T-both (same_frame v w) (same_rows v.rows w.rows)).0 t in
+      let (nodes, kinds) = (frame_exactly v w).0 a in
+      (nodes, kinds, (rows_exactly v.rows w.rows).0 b),
+  λ (nodes, kinds, rows). (T-both (same_frame v w) (same_rows v.rows w.rows)).1
+      ((frame_exactly v w).1 (nodes, kinds), (rows_exactly v.rows w.rows).1 rows),
+)

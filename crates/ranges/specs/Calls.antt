@@ -5,11 +5,12 @@ use Rattle.graph.specs.Graph.{row_numbers}
 use Rattle.checks.specs.Checks.{Check, Ended, Outcome, checked, ended}
 use Rattle.costs.specs.Costs.{cost_at}
 use Rattle.costs.specs.Layouts.{layouts}
-use Rattle.costs.specs.Network.{Network, Row, added_at, graph_of}
+use Rattle.costs.specs.Network.{Network, Row, graph_of}
 use Rattle.network_file.specs.Bytes.{state_number}
 use Rattle.network_file.specs.File.{file_checks, network_of}
 use Rattle.network_file.specs.Frames.{same_frame}
 use Rattle.operations.specs.Operations.{check, drawn_checks, over, some_tree}
+use Rattle.charges.specs.Charges.{added_at}
 use Rattle.ranges.specs.Ranges.{greatest_sum, least_sum, row_mark, unbeaten}
 
 -- the first criterion's costs, row by row

@@ -1,3 +1,2 @@
 //! Costs known only as a range (#110): definitions and laws, no code.
 #![tactic(auto)]
-

@@ -112,7 +112,7 @@ module _ {f c : List ℕ} {k : ℕ} (l : Laid f c k) where
   given = record {
     ready = record { right = l.listing.right; tables = tables; graph_is = graph_is; musts_are = musts_are };
     all_musts = ap (take 31) musts_are ∙ take_all 31 (musts_in c) forest.1;
-    ground = record {
+    footing = record {
       tables = tables;
       forest = subst (λ (x : Graph). Forest x (musts_in c)) (sym (graph_is ∙ l.listing.graph)) forest.0;
       lies = λ r m. free_lie firsts seconds heads (limit_in c) r m;

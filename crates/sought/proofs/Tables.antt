@@ -200,7 +200,7 @@ module _ {c firsts seconds heads kinds : List ℕ} {k : ℕ} {prices leads : Lis
       lowered =
           subst (λ (x : Graph). Lowered (OfIn x) (Open (take n F) (take k tops)) (Open (take n F) (take k tops)) none (least_of k best)) s.ready.graph_is
           (subst (λ (rows : List (List ℕ)). Lowered (OfIn table) (Open rows (take k tops)) (Open rows (take k tops)) none (least_of k best)) known_rows_lem
-          (region_whole (OfIn table) (known_rows k (take (n * k) costs)) lowest (take k tops) none (least_of k best) nothing_below (next s.ground tops_past)))
+          (region_whole (OfIn table) (known_rows k (take (n * k) costs)) lowest (take k tops) none (least_of k best) nothing_below (next s.footing tops_past)))
 
       under : (v : List ℕ) → OfHere v → T (inside (take k tops) v)
       under v o =

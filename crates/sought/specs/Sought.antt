@@ -86,7 +86,7 @@ lowest = 0 ∷ 0 ∷ 0 ∷ 0 ∷ []
 pub record Searched (c firsts seconds heads kinds : List ℕ) (k : ℕ) (prices leads : List ℕ) : Type 0 where
   pub ready : Ready c firsts seconds heads k
   pub all_musts : take 31 (rows_on heads) ≡ musts_in c
-  pub ground : Ground firsts seconds (limit_in c) k (musts_in c) (free_in firsts seconds heads (limit_in c))
+  pub footing : Ground firsts seconds (limit_in c) k (musts_in c) (free_in firsts seconds heads (limit_in c))
   pub under : (p : List ℕ) → p ∈ list_in c → T (inside (take k tops) (cost_of (table_of kinds k prices leads) p))
 
 -- what the search for the next row answers, where `count` rows of k places are known

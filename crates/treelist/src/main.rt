@@ -10,9 +10,14 @@ ghost use Rattle.treelist.specs.Given.{Given};
 
 use fields::Header;
 use fronted::FrontAnswer;
-use libc::{STDIN_FILENO, STDOUT_FILENO};
 use network::Opened;
 use page::PageAnswer;
+
+// The descriptor of the standard input.
+const STDIN_FILENO: i32 = 0;
+
+// The descriptor of the standard output.
+const STDOUT_FILENO: i32 = 1;
 
 // A page of 64 trees.
 fn page_space() -> [u16; 1984]

@@ -8,6 +8,9 @@ use planner_c::{
     planner_cost, planner_front, planner_open, planner_order, planner_page, planner_reach,
 };
 
+// The descriptor of the standard output.
+const STDOUT_FILENO: i32 = 1;
+
 // Writes the line, which ends at a place of the buffer, and a line feed to the standard output.
 fn write(line: &mut [u8], at: usize) {
     let end = printout::ended(line, at);

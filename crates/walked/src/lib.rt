@@ -131,8 +131,8 @@ fn passes(
 
 /// Front: the first vectors of the front, as many as fit, each with the first tree of the list that has it.
 pub fn front(file: &[u8], costs: &mut [u32], witnesses: &mut [u16]) -> FrontAnswer
-    ensures { record { outcome = fronted_of result; buffers = record { costs = costs.exit.now; witnesses = witnesses.new } }
-        ≡ front_call file.now costs.entry.now witnesses.old }
+    ensures { record { outcome = fronted_of result; buffers = record { costs = costs.new; witnesses = witnesses.new } }
+        ≡ front_call file.now costs.old witnesses.old }
 {
     let mut chart = [0u64; chart::LENGTH];
     let opened = listed::listed(file, &mut chart);

@@ -65,7 +65,7 @@ fn place(x: usize, y: usize) -> usize
 
 /// One more link between two of 32 nodes, beside what joins them already. Places behind the first 1,024 stay as they are.
 pub fn add(dropped: &mut [u32], merged: &mut [u32], x: usize, y: usize, weight: Weight)
-    ensures { record { dropped = dropped.exit.now; merged = merged.new } ≡ add_to dropped.entry.now merged.old x y (weight_in weight) }
+    ensures { record { dropped = dropped.new; merged = merged.new } ≡ add_to dropped.old merged.old x y (weight_in weight) }
 {
     if 31 < x {
         return;

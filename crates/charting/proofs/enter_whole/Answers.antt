@@ -1,5 +1,5 @@
 use mathlib.Core.Path.{◌∙◌, ◌≡◌, refl, sym}
-use mathlib.Core.Logic.{⊎_elim}
+use borrow.Author.Tests.{eq-eqb, ne_eqb}
 use Prim.Native.Nat.{◌+◌, ◌-◌}
 use native.Mathlib.Omega.{arith}
 use lib.Dec.{eqb}
@@ -8,7 +8,7 @@ use Rattle.network_file.specs.File.{byte_at, version}
 use Rattle.chart.specs.Chart.{entered_down}
 use Rattle.chart.proofs.Files.{has_bytes, has_less, has_stated, has_turn}
 use Rattle.charting.proofs.enter_whole.Goals as goal
-use Rattle.charting.proofs.enter_whole.Goals.{Joined-two}
+use Rattle.charting.proofs.enter_whole.Goals.{Joined-two, then-two, else-two}
 
 pub loop-r-init : goal.loop-r-init
 loop-r-init c = (refl, c.requires)
@@ -18,13 +18,16 @@ overflow_sub-at c = has_bytes c.loop-r.invariant.1 c.loop-r-test.true c.row_byte
 
 pub bounds-file-at : goal.bounds-file-at
 bounds-file-at c =
-    has_stated c.loop-r.invariant.1 c.loop-r-test.true c.row_bytes-step.ensures c.if-two.true
+    has_stated c.loop-r.invariant.1 c.loop-r-test.true c.row_bytes-step.ensures (eq-eqb _ _ c.if-two.true)
 
 -- the state byte of the row; 0 where there is none
 read : (c : Joined-two)
     → let file = c.args.file.now in
     c.if-two.number ≡ pick (eqb (version file) 2) (byte_at file (c.loop-r.at - c.row_bytes-step.result + 4)) 0
-read c = ⊎_elim (λ w. w.2 ∙ rw w.0.true) (λ w. w.1 ∙ rw w.0.left) c.if-two.branch
+read c = elim c.if-two.branch [
+  | then-two w ↦ w.number-is ∙ rw (eq-eqb _ _ w.if-two.true)
+  | else-two w ↦ w.number-is ∙ rw (ne_eqb _ _ w.if-two.false)
+]
 
 pub loop-r-preserved : goal.loop-r-preserved
 loop-r-preserved c =

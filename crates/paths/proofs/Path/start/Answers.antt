@@ -1,0 +1,7 @@
+use borrow.Author.Rules.{rules}
+use Rattle.paths.specs.Path.{keys_from, keys_of}
+use Rattle.paths.proofs.Path.start.Goals as goal
+
+pub returns : goal.returns
+unfolding keys_of keys_from
+returns c = search rules

@@ -1,0 +1,13 @@
+-- The loop's invariant: check 15 comes to what it comes to from row r on. Its measure: the rows that are left.
+use mathlib.Core.Path.{◌≡◌}
+use Prim.Native.Nat.{◌-◌}
+use Rattle.lists.specs.Lists.{all, range}
+use Rattle.tried.specs.Tried.{kept_by}
+use Rattle.tried.proofs.Laws.{kept_at}
+use Rattle.tried.proofs.kept.Given as goal
+
+abbrev pub invariant-loop-r : goal.invariant-loop-r
+invariant-loop-r l = kept_by l.chart l.drawn ≡ all (kept_at l.chart l.drawn) (range l.r (l.count - l.r))
+
+abbrev pub decreases-loop-r : goal.decreases-loop-r
+decreases-loop-r l = l.count - l.r
