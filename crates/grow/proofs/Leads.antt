@@ -24,7 +24,6 @@ use Rattle.costs.proofs.Layouts.{end_at, must_free, must_out, open_ends, row_cou
 use Rattle.states.specs.States.{must_row}
 use Rattle.network_file.specs.File.{network_of, sizes_of}
 use Rattle.network_file.proofs.Accepted.{Accepted, row_in_lem, rows_length}
-use Rattle.words.specs.Words.{has}
 use Rattle.words.proofs.Words.{has_zero}
 use Rattle.chart.specs.Chart.{Blank, count_in, file_chart_on, firsts_in, graph_in, list_in, musts_in, near_in, seconds_in}
 use Rattle.chart.proofs.Charts.{Charts, masked, musts_known, musts_long}

@@ -1,6 +1,5 @@
 -- The loop's invariant: with the first r rows entered the chart is what it is to become, and they end at `at`. The measure is r.
 use mathlib.Core.Path.{◌≡◌}
-use Prim.Native.Nat.{◌-◌}
 use Rattle.network_file.specs.File.{network_of}
 use Rattle.chart.specs.Chart.{HasRows, entered_down}
 use Rattle.charting.proofs.enter_whole.Given as goal

@@ -1,5 +1,4 @@
 use mathlib.Core.Path.{◌∙◌, ◌≡◌, sym}
-use Prim.Native.Nat.{◌-◌}
 use Rattle.lists.proofs.Ranges.{all_range_end, all_range_next, all_range_stop}
 use Rattle.grow.proofs.Leads.{dug_at, musts_start}
 use Rattle.grow.proofs.musts_dug.Goals as goal

@@ -1,4 +1,3 @@
-use Prim.Native.Nat.{◌-◌}
 use native.Mathlib.Omega.{arith}
 use Rattle.index.proofs.Entries.{counted_more, counted_next, counted_over, counted_start}
 use Rattle.index.proofs.fits.Goals as goal

@@ -1,6 +1,6 @@
 use mathlib.Core.Path.{◌∙◌, ◌≡◌, subst, sym}
 use mathlib.Core.List.{List}
-use Prim.Native.Nat.{◌+◌, ◌-◌, ◌<◌, ◌≤◌, ℕ}
+use Prim.Native.Nat.{◌+◌, ◌<◌, ◌≤◌, ℕ}
 use native.Mathlib.Omega.{arith}
 use lib.ListN.{get_elem?, length}
 use Rattle.lists.proofs.Members.{◌∈◌}

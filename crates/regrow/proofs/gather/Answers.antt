@@ -1,4 +1,4 @@
-use Prim.Native.Nat.{◌-◌, ◌<◌}
+use Prim.Native.Nat.{◌<◌}
 use native.Mathlib.Omega.{arith}
 use Rattle.regrow.proofs.Growing.{gathered_next, gathered_over, gathered_start}
 use borrow.Author.Tests.{ltb-false, ltb-true}

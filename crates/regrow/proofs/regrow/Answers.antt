@@ -1,5 +1,5 @@
 use mathlib.Core.Path.{ap, refl}
-use Prim.Native.Nat.{◌-◌, ◌<◌}
+use Prim.Native.Nat.{◌<◌}
 use native.Mathlib.Omega.{arith}
 use lib.ListN.{length-set, length-take}
 use Rattle.search.specs.Search.{found_of}

@@ -1,5 +1,5 @@
 use mathlib.Core.Path.{◌∙◌, refl, sym}
-use Prim.Native.Nat.{◌-◌, ◌<◌}
+use Prim.Native.Nat.{◌<◌}
 use native.Mathlib.Omega.{arith}
 use Rattle.chart.proofs.Laws.{firsts_length}
 use Rattle.search.proofs.Laws.{at_row, enter_nodes, leave_nodes, leave_places, leave_rows, next_open, next_rows, over_limit, pass_row}

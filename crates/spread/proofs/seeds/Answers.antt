@@ -1,5 +1,4 @@
 use mathlib.Core.Path.{◌∙◌, sym}
-use Prim.Native.Nat.{◌-◌}
 use native.Mathlib.Omega.{arith}
 use Rattle.chart.specs.Chart.{near_in}
 use Rattle.spread.proofs.Sweeps.{seeds_end, seeds_more, seeds_none, seeds_start}

@@ -1,4 +1,4 @@
-use Prim.Native.Nat.{◌-◌, ◌<◌, ◌^◌}
+use Prim.Native.Nat.{◌<◌, ◌^◌}
 use native.Mathlib.Omega.{arith}
 use Rattle.spread.proofs.Members.{all_in, falls, spread_begins, turn}
 use Rattle.spread.proofs.spread.Goals as goal

@@ -1,6 +1,6 @@
 -- The loop's invariant: the next path is that of the walk back from step i on, for any path that the arrays hold. The measure is i.
 use mathlib.Core.List.{List}
-use Prim.Native.Nat.{◌-◌, ◌≤◌}
+use Prim.Native.Nat.{◌≤◌}
 use lib.ListN.{length}
 use Rattle.graph.specs.Paths.{Key}
 use Rattle.trail.proofs.Back.{LeftAt, Walked}

@@ -1,5 +1,4 @@
 use mathlib.Core.Path.{◌∙◌, ◌≡◌, sym}
-use Prim.Native.Nat.{◌-◌}
 use Rattle.lists.proofs.Ranges.{all_range_end, all_range_next, all_range_stop}
 use Rattle.tried.proofs.Laws.{kept_start, kept_at}
 use Rattle.tried.proofs.kept.Goals as goal

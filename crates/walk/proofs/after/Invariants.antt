@@ -1,6 +1,5 @@
 -- The loop's invariant: the whole answer is that of the rest of the walk back. The measure is its length.
 use mathlib.Core.Path.{◌≡◌}
-use Prim.Native.Nat.{◌-◌}
 use Rattle.paths.specs.Path.{keys_of, plant_of}
 use Rattle.walk.specs.Walk.{after_from, after_of}
 use Rattle.walk.proofs.after.Given as goal
