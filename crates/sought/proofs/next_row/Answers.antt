@@ -4,7 +4,7 @@ use lib.Seq.{length-take-le}
 use Rattle.sought.proofs.next_row.Goals as goal
 
 pub slice_bounds-least-end : goal.slice_bounds-least-end
-slice_bounds-least-end c = sym (length-take-le _ _ c.before.requires)
+slice_bounds-least-end c = sym (length-take-le _ _ c.requires)
 
 pub returns : goal.returns
 returns c = c.least.ensures

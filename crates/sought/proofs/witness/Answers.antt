@@ -9,6 +9,7 @@ use Rattle.sought.proofs.Seeking.{seek_after, seek_deeper, seek_end, seek_less, 
 use Rattle.sought.proofs.witness.Goals as goal
 use Rattle.sought.proofs.witness.Goals.{After-opens}
 
+-- the answer of the search
 told : (c : After-opens)
     → let a = c.args in
     Tells (graph_in a.chart.now) (table_of a.kinds a.k a.prices.now a.leads.now) (musts_in a.chart.now) (take a.k a.limits)
