@@ -26,7 +26,8 @@ returns-then-buffer-places c =
 
 pub returns-then-not-added : goal.returns-then-not-added
 returns-then-not-added c =
-    charge_strange _ _ _ c.drawn-drawn.ensures c.if-number-ne0.false c.header_of-header.ensures _ _ c.if-buffer-places.false
+    let room : c.header_of-header.result.n - 1 ≤ length c.args.buffer.now = omega arith in
+    charge_strange _ _ _ c.drawn-drawn.ensures c.if-number-ne0.false c.header_of-header.ensures _ _ room
     (sym c.is_added-added.ensures ∙ c.if-not-added.true)
 
 several : (c : After-added-total) → 2 ≤ c.header_of-header.result.n
