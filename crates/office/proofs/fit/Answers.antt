@@ -15,10 +15,12 @@ pub returns-then-h-eq0 : goal.returns-then-h-eq0
 returns-then-h-eq0 c = unfit _ _ _ _ _ _ (λ t. let (_, _, pos, _) = fit_says _ _ _ _ _ _ t in omega (arith, c.if-h-eq0.true))
 
 pub returns-then-not-has_rows : goal.returns-then-not-has_rows
-returns-then-not-has_rows c = unfit _ _ _ _ _ _ (λ t. let (_, _, _, g) = fit_says _ _ _ _ _ _ t in eqb-false _ _ (sym c.has_rows.ensures ∙ c.if-not-has_rows.true) g.costs)
+returns-then-not-has_rows c =
+    unfit _ _ _ _ _ _ (λ t. let (_, _, _, g) = fit_says _ _ _ _ _ _ t in eqb-false _ _ (sym c.has_rows.ensures ∙ c.if-not-has_rows.true) g.costs)
 
 pub returns-then-not-has_rows-2 : goal.returns-then-not-has_rows-2
-returns-then-not-has_rows-2 c = unfit _ _ _ _ _ _ (λ t. let (_, _, _, g) = fit_says _ _ _ _ _ _ t in eqb-false _ _ (sym c.has_rows-2.ensures ∙ c.if-not-has_rows-2.true) g.witnesses)
+returns-then-not-has_rows-2 c =
+    unfit _ _ _ _ _ _ (λ t. let (_, _, _, g) = fit_says _ _ _ _ _ _ t in eqb-false _ _ (sym c.has_rows-2.ensures ∙ c.if-not-has_rows-2.true) g.witnesses)
 
 pub returns-then-h-first : goal.returns-then-h-first
 returns-then-h-first c = unfit _ _ _ _ _ _ (λ t. let (_, _, _, g) = fit_says _ _ _ _ _ _ t in omega (arith, c.if-h-first.true, g.first))

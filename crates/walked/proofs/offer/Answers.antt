@@ -30,6 +30,7 @@ slice_bounds-offer-end-2 c = simp length-take (omega (arith, rows_long (goal.at.
 
 pub returns : goal.returns
 returns c =
+    let start = (goal.at.returns c).Start in
     let path = c.args.path in
     let costs = costs_are path _ _ _ c.requires.0 c.requires.1 c.vector-vector.ensures in
-    c.offer.ensures ∙ (rw (costs, path_rows path _ c.length-n.ensures (nodes_long (goal.at.returns c).Start) (rows_long (goal.at.returns c).Start) (pivots_long (goal.at.returns c).Start)))
+    c.offer.ensures ∙ (rw (costs, path_rows path _ c.length-n.ensures (nodes_long start) (rows_long start) (pivots_long start)))

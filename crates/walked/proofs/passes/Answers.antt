@@ -4,10 +4,10 @@ use native.Mathlib.Omega.{arith}
 use borrow.Author.Rules.{rules}
 use lib.ListN.{length}
 use Rattle.fronted.specs.Filled.{Holding}
-use Rattle.network_file.specs.File.{Sizes, sizes_of}
+use Rattle.network_file.specs.File.{Sizes}
 use Rattle.walked.proofs.Tables.{Standing, from_fit, into_fit, pass_cut, pass_less, pass_more, pass_whole, scratch_holds, standing_known, standing_long, standing_start}
 use Rattle.walked.proofs.passes.Goals as goal
-use Rattle.walked.proofs.passes.Goals.{After-copy_rows, After-pass-scratch, After-smaller-fit, After-width-width, At-loop-vectors}
+use Rattle.walked.proofs.passes.Goals.{After-copy_rows, After-pass-scratch, After-smaller-fit, At-loop-vectors}
 
 pub loop-vectors-init : goal.loop-vectors-init
 loop-vectors-init c = (standing_start c.requires.0 c.requires.1, search rules, search rules)
@@ -18,49 +18,45 @@ pass-scratch-requires c =
     let pre = c.requires in
     (pre.0, standing_known pre.0 pre.1 inv.0, scratch_holds pre.0 pre.1 inv.1 inv.2)
 
--- the number of criteria that the code has read is the file's
-criteria : (c : After-width-width) → c.header_of-header.result.k ≡ (sizes_of c.args.file.now).k
-criteria c = ap (λ (s : Sizes). s.k) c.header_of-header.ensures
-
 -- the lent tables keep their length
-kept : (c : At-loop-vectors)
-    → let args = c.args in (length c.loop-vectors.costs ≡ length args.costs.now) × (length c.loop-vectors.witnesses ≡ length args.witnesses.now)
-kept c = let pre = c.requires in standing_long pre.0 pre.1 c.loop-vectors.invariant.0
+kept : (c : At-loop-vectors) → (length c.loop-vectors.costs ≡ length c.args.costs.now) × (length c.loop-vectors.witnesses ≡ length c.args.witnesses.now)
+kept c = standing_long c.requires.0 c.requires.1 c.loop-vectors.invariant.0
 
 -- and the scratch table its own
 scratch_kept : (c : After-pass-scratch) → (length c.pass-scratch.new.costs ≡ 260) × (length c.pass-scratch.new.witnesses ≡ 2015)
 scratch_kept c = let inv = c.loop-vectors.invariant in (c.pass-scratch.auto.costs ∙ inv.1, c.pass-scratch.auto.witnesses ∙ inv.2)
 
--- the rows that fit, in the lent tables and in the scratch table
-into : (c : After-smaller-fit)
-    → (c.header_of-header.result.k ≡ (sizes_of c.args.file.now).k)
-    → Holding (c.loop-vectors.count + c.smaller-fit.result) c.header_of-header.result.k c.width-width.result c.loop-vectors.costs c.loop-vectors.witnesses
-into c criteria' =
-    let pre = c.requires in
-    into_fit pre.0 pre.1 c.loop-vectors.invariant.0 c.pass-scratch.ensures c.smaller-fit.ensures criteria' c.width-width.ensures
+-- the rows that fit, in the lent tables and in the scratch table; the number of criteria that the code has read is the file's
+into : (c : After-smaller-fit) → Holding (c.loop-vectors.count + c.smaller-fit.result) c.header_of-header.result.k c.width-width.result c.loop-vectors.costs c.loop-vectors.witnesses
+into c =
+    let criteria = ap (λ (s : Sizes). s.k) c.header_of-header.ensures in
+    into_fit c.requires.0 c.requires.1 c.loop-vectors.invariant.0 c.pass-scratch.ensures c.smaller-fit.ensures criteria c.width-width.ensures
 
-from : (c : After-smaller-fit)
-    → ((length c.pass-scratch.new.costs ≡ 260) × (length c.pass-scratch.new.witnesses ≡ 2015))
-    → (c.header_of-header.result.k ≡ (sizes_of c.args.file.now).k)
+from : (c : After-smaller-fit) → (length c.pass-scratch.new.costs ≡ 260) × (length c.pass-scratch.new.witnesses ≡ 2015)
     → Holding c.smaller-fit.result c.header_of-header.result.k c.width-width.result c.pass-scratch.new.costs c.pass-scratch.new.witnesses
-from c scratch_kept' criteria' =
-    let pre = c.requires in
-    let (vectors, trees) = scratch_kept' in
-    from_fit pre.0 pre.1 c.loop-vectors.invariant.0 c.pass-scratch.ensures c.smaller-fit.ensures criteria' c.width-width.ensures vectors trees
+from c (vectors, trees) =
+    let criteria = ap (λ (s : Sizes). s.k) c.header_of-header.ensures in
+    from_fit c.requires.0 c.requires.1 c.loop-vectors.invariant.0 c.pass-scratch.ensures c.smaller-fit.ensures criteria c.width-width.ensures vectors trees
 
 pub overflow_mul-count : goal.overflow_mul-count
 overflow_mul-count c =
-    omega (arith, (into (goal.at.overflow_mul-count c).After-smaller-fit (criteria (goal.at.overflow_mul-count c).After-width-width)).costs_fit, (kept (goal.at.overflow_mul-count c).At-loop-vectors).0)
+    let at = goal.at.overflow_mul-count c in
+    omega (arith, (into at.After-smaller-fit).costs_fit, (kept at.At-loop-vectors).0)
 
 pub overflow_mul-fit : goal.overflow_mul-fit
-overflow_mul-fit c = omega (arith, (from (goal.at.overflow_mul-fit c).After-smaller-fit (scratch_kept (goal.at.overflow_mul-fit c).After-pass-scratch) (criteria (goal.at.overflow_mul-fit c).After-width-width)).costs_fit)
+overflow_mul-fit c =
+    let at = goal.at.overflow_mul-fit c in
+    omega (arith, (from at.After-smaller-fit (scratch_kept at.After-pass-scratch)).costs_fit)
 
 pub overflow_mul-count-in-loop-vectors : goal.overflow_mul-count-in-loop-vectors
 overflow_mul-count-in-loop-vectors c =
-    omega (arith, (into (goal.at.overflow_mul-count-in-loop-vectors c).After-smaller-fit (criteria (goal.at.overflow_mul-count-in-loop-vectors c).After-width-width)).trees_fit, (kept (goal.at.overflow_mul-count-in-loop-vectors c).At-loop-vectors).1)
+    let at = goal.at.overflow_mul-count-in-loop-vectors c in
+    omega (arith, (into at.After-smaller-fit).trees_fit, (kept at.At-loop-vectors).1)
 
 pub overflow_mul-fit-in-loop-vectors : goal.overflow_mul-fit-in-loop-vectors
-overflow_mul-fit-in-loop-vectors c = omega (arith, (from (goal.at.overflow_mul-fit-in-loop-vectors c).After-smaller-fit (scratch_kept (goal.at.overflow_mul-fit-in-loop-vectors c).After-pass-scratch) (criteria (goal.at.overflow_mul-fit-in-loop-vectors c).After-width-width)).trees_fit)
+overflow_mul-fit-in-loop-vectors c =
+    let at = goal.at.overflow_mul-fit-in-loop-vectors c in
+    omega (arith, (from at.After-smaller-fit (scratch_kept at.After-pass-scratch)).trees_fit)
 
 pub shape_of-costs-then-room-scratch : goal.shape_of-costs-then-room-scratch
 shape_of-costs-then-room-scratch c = c.copy_costs.auto.costs ∙ (kept (goal.at.shape_of-costs-then-room-scratch c).At-loop-vectors).0
@@ -69,30 +65,32 @@ pub shape_of-witnesses-then-room-scratch : goal.shape_of-witnesses-then-room-scr
 shape_of-witnesses-then-room-scratch c = c.copy_rows.auto.rows ∙ (kept (goal.at.shape_of-witnesses-then-room-scratch c).At-loop-vectors).1
 
 -- the rows that fit are written
-more : (c : After-copy_rows)
-    → (c.header_of-header.result.k ≡ (sizes_of c.args.file.now).k)
-    → (Holding c.smaller-fit.result c.header_of-header.result.k c.width-width.result c.pass-scratch.new.costs c.pass-scratch.new.witnesses)
+more : (c : After-copy_rows) → Holding c.smaller-fit.result c.header_of-header.result.k c.width-width.result c.pass-scratch.new.costs c.pass-scratch.new.witnesses
     → let args = c.args in
     Standing args.file.now args.capacity args.costs.now args.witnesses.now (c.loop-vectors.count + c.smaller-fit.result) c.copy_costs.new.costs c.copy_rows.new.rows
-more c criteria' from' =
-    let pre = c.requires in
-    pass_more pre.0 pre.1 c.loop-vectors.invariant.0 c.pass-scratch.ensures c.smaller-fit.ensures criteria' c.width-width.ensures
-    from' c.copy_costs.ensures c.copy_rows.ensures
+more c held =
+    let criteria = ap (λ (s : Sizes). s.k) c.header_of-header.ensures in
+    pass_more c.requires.0 c.requires.1 c.loop-vectors.invariant.0 c.pass-scratch.ensures c.smaller-fit.ensures criteria c.width-width.ensures
+    held c.copy_costs.ensures c.copy_rows.ensures
 
 pub returns-then-room-scratch : goal.returns-then-room-scratch
 returns-then-room-scratch c =
-    pass_cut c.pass-scratch.ensures c.loop-vectors.invariant.0.fits c.smaller-fit.ensures (more (goal.at.returns-then-room-scratch c).After-copy_rows (criteria (goal.at.returns-then-room-scratch c).After-width-width) (from (goal.at.returns-then-room-scratch c).After-smaller-fit (scratch_kept (goal.at.returns-then-room-scratch c).After-pass-scratch) (criteria (goal.at.returns-then-room-scratch c).After-width-width))) c.if-room-scratch.true
+    let at = goal.at.returns-then-room-scratch c in
+    pass_cut c.pass-scratch.ensures c.loop-vectors.invariant.0.fits c.smaller-fit.ensures
+    (more at.After-copy_rows (from at.After-smaller-fit (scratch_kept at.After-pass-scratch))) c.if-room-scratch.true
 
 pub overflow_add-count : goal.overflow_add-count
-overflow_add-count c =
-    omega (arith, c.smaller-fit.ensures, c.loop-vectors.invariant.0.fits, c.ranges.capacity)
+overflow_add-count c = omega (arith, c.smaller-fit.ensures, c.loop-vectors.invariant.0.fits, c.ranges.capacity)
 
 pub loop-vectors-smaller : goal.loop-vectors-smaller
 loop-vectors-smaller c =
     pass_less c.pass-scratch.ensures c.loop-vectors.invariant.0.fits c.smaller-fit.ensures c.if-room-scratch.false c.if-scratch.true
 
 pub loop-vectors-preserved : goal.loop-vectors-preserved
-loop-vectors-preserved c = let (vectors, trees) = scratch_kept (goal.at.loop-vectors-preserved c).After-pass-scratch in (more (goal.at.loop-vectors-preserved c).After-copy_rows (criteria (goal.at.loop-vectors-preserved c).After-width-width) (from (goal.at.loop-vectors-preserved c).After-smaller-fit (scratch_kept (goal.at.loop-vectors-preserved c).After-pass-scratch) (criteria (goal.at.loop-vectors-preserved c).After-width-width)), vectors, trees)
+loop-vectors-preserved c =
+    let at = goal.at.loop-vectors-preserved c in
+    let (vectors, trees) = scratch_kept at.After-pass-scratch in
+    (more at.After-copy_rows (from at.After-smaller-fit (vectors, trees)), vectors, trees)
 
 pub shape_of-costs-else-scratch : goal.shape_of-costs-else-scratch
 shape_of-costs-else-scratch c = c.copy_costs.auto.costs ∙ (kept (goal.at.shape_of-costs-else-scratch c).At-loop-vectors).0
@@ -102,4 +100,6 @@ shape_of-witnesses-else-scratch c = c.copy_rows.auto.rows ∙ (kept (goal.at.sha
 
 pub returns-else-scratch : goal.returns-else-scratch
 returns-else-scratch c =
-    pass_whole c.pass-scratch.ensures c.loop-vectors.invariant.0.fits c.smaller-fit.ensures (more (goal.at.returns-else-scratch c).After-copy_rows (criteria (goal.at.returns-else-scratch c).After-width-width) (from (goal.at.returns-else-scratch c).After-smaller-fit (scratch_kept (goal.at.returns-else-scratch c).After-pass-scratch) (criteria (goal.at.returns-else-scratch c).After-width-width))) c.if-room-scratch.false c.if-scratch.false
+    let at = goal.at.returns-else-scratch c in
+    pass_whole c.pass-scratch.ensures c.loop-vectors.invariant.0.fits c.smaller-fit.ensures
+    (more at.After-copy_rows (from at.After-smaller-fit (scratch_kept at.After-pass-scratch))) c.if-room-scratch.false c.if-scratch.false
