@@ -3,7 +3,6 @@
 //! must come out. The starred trials are theorems (crate examples).
 #![tactic(auto)]
 
-use libc::STDOUT_FILENO;
 use planner_c::{
     planner_cost, planner_front, planner_open, planner_order, planner_page, planner_reach,
 };
