@@ -1,6 +1,6 @@
 -- Copies of places (`Copied`), rows of k places in a table, what the functions below `print_file` are given, and what Page's answer says of a run.
 use mathlib.Core.Path.{◌∙◌, ◌≡◌, ap, refl, sym}
-use mathlib.Core.Bool.{Bool, false, not, true}
+use mathlib.Core.Bool.{Bool, false, true}
 use mathlib.Core.Option.{none}
 use mathlib.Core.List.Memᴰ.{head as here}
 use mathlib.Core.List.{List, [], ◌∷◌}
@@ -11,7 +11,7 @@ use native.Mathlib.Omega.{arith}
 use lib.Dec.{leb}
 use lib.ListN.{drop, get_or, length, length-drop, length-set, length-take, set, take}
 use lib.Seq.{take_all, take-suc, take-suc-set}
-use borrow.Author.Tests.{le-leb, not-false, not-true}
+use borrow.Author.Tests.{le-leb}
 use Rattle.lists.proofs.Tests.{T_true}
 use Rattle.graph.specs.Graph.{width}
 use Rattle.checks.specs.Checks.{Ended, first_unmet}
@@ -139,15 +139,15 @@ module _ {f : List ℕ} {h : Header} {start page after : List ℕ} {total : ℕ}
   pub not_refused : {number : ℕ} → r ≡ paged.Refused number → ⊥
   not_refused {number} told = never_refused f call.given.met call.given.tree start page total call.run fits after number (ends_as_lem told)
 
-  pub last_page : {c : ℕ} {m : Bool} → r ≡ paged.Trees c m → not m ≡ true → min (total + c) (2 ^ 64 - 1) ≡ min (length (layouts_in f)) (2 ^ 64 - 1)
+  pub last_page : {c : ℕ} {m : Bool} → r ≡ paged.Trees c m → m ≡ false → min (total + c) (2 ^ 64 - 1) ≡ min (length (layouts_in f)) (2 ^ 64 - 1)
   last_page {c} {m} told none_left =
       all_written f call.given.met call.given.tree start page total call.run fits after c
-      (ends_as_lem (told ∙ ap (paged.Trees c) (not-true m none_left)))
+      (ends_as_lem (told ∙ ap (paged.Trees c) none_left))
 
-  pub page_left : {c : ℕ} {m : Bool} → r ≡ paged.Trees c m → not m ≡ false → More f start after (h.n - 1) total c
+  pub page_left : {c : ℕ} {m : Bool} → r ≡ paged.Trees c m → m ≡ true → More f start after (h.n - 1) total c
   page_left {c} {m} told some_left =
       rw (given_width call.given) (more_left f call.given.met call.given.tree start page total call.run fits after c
-      (ends_as_lem (told ∙ ap (paged.Trees c) (not-false m some_left))))
+      (ends_as_lem (told ∙ ap (paged.Trees c) some_left)))
 
 -- Pick's part, where the tree ends within the page
 picked : (n t : ℕ) (page : List ℕ) → 2 ≤ n → n ≤ 32 → t * (n - 1) + (n - 1) ≤ length page → pick_call n page t ≡ take (n - 1) (drop (t * (n - 1)) page)
