@@ -1,12 +1,12 @@
 -- Each way out is one way of a fetch to end. The entry lies within the index (`ends`), since there are more entries than its number.
 use mathlib.Core.Path.{◌∙◌, ◌≡◌}
-use Prim.Native.Nat.{◌%◌, ◌*◌, ◌+◌, ◌/◌, ◌<◌, ◌≤◌}
+use Prim.Native.Nat.{◌*◌, ◌+◌, ◌/◌, ◌≤◌}
 use native.Mathlib.Omega.{arith}
 use lib.ListN.{length}
 use borrow.Author.Tests.{eq-eqb, ne_eqb, not-false, not-true}
 use Rattle.fetch.proofs.Laws.{entry_ends, fetched_ends, fetched_entry, fetched_met, fetched_none, fetched_short, moves_few, spacing_some, width_some}
 use Rattle.fetch.proofs.fetched.Goals as goal
-use Rattle.fetch.proofs.fetched.Goals.{Else-entries-entry, Else-number-ne0}
+use Rattle.fetch.proofs.fetched.Goals.{Else-entries-entry}
 
 pub returns-then-buffer-width : goal.returns-then-buffer-width
 returns-then-buffer-width c f o right = fetched_short o _ c.width-width.ensures _ right _ _ _ c.if-buffer-width.true
@@ -40,21 +40,20 @@ slice_bounds-rows-end c = omega (arith, ends c)
 
 pub returns-then-number-ne0 : goal.returns-then-number-ne0
 returns-then-number-ne0 c f o right =
-    let unmet : ¬ (c.number-number.result ≡ 0) = omega (arith, c.if-number-ne0.true) in
+    let unmet : ¬ (c.number-number.result ≡ 0) = omega arith in
     fetched_entry o _ c.width-width.ensures _ right _ _ _ c.if-buffer-width.false (ends (goal.at.returns-then-number-ne0 c).Else-entries-entry) _ (c.number-number.ensures f o ∙ (rw (ne_eqb _ 0 unmet)))
 
-few : (c : Else-number-ne0) → let s = c.args in s.tree % s.spacing < s.spacing
-few c = moves_few _ _ c.if-spacing-eq0.false
-
 pub overflow_cast-moves : goal.overflow_cast-moves
-overflow_cast-moves c = omega (arith, few c)
+overflow_cast-moves c = omega (arith, moves_few c.args.spacing c.args.tree c.if-spacing-eq0.false)
 
 pub returns-then-not-reached : goal.returns-then-not-reached
 returns-then-not-reached c f o right =
-    fetched_ends o _ c.width-width.ensures _ right _ _ _ c.if-buffer-width.false (ends (goal.at.returns-then-not-reached c).Else-entries-entry) (c.number-number.ensures f o ∙ (rw (eq-eqb _ 0 c.if-number-ne0.false)))
+    let met : c.number-number.result ≡ 0 = omega arith in
+    fetched_ends o _ c.width-width.ensures _ right _ _ _ c.if-buffer-width.false (ends (goal.at.returns-then-not-reached c).Else-entries-entry) (c.number-number.ensures f o ∙ (rw (eq-eqb _ 0 met)))
     c.tree_of.result c.moved-reached.result c.tree_of.ensures c.moved-reached.ensures (not-true _ c.if-not-reached.true)
 
 pub returns : goal.returns
 returns c f o right =
-    fetched_met o _ c.width-width.ensures _ right _ _ _ c.if-buffer-width.false (ends (goal.at.returns c).Else-entries-entry) (c.number-number.ensures f o ∙ (rw (eq-eqb _ 0 c.if-number-ne0.false)))
+    let met : c.number-number.result ≡ 0 = omega arith in
+    fetched_met o _ c.width-width.ensures _ right _ _ _ c.if-buffer-width.false (ends (goal.at.returns c).Else-entries-entry) (c.number-number.ensures f o ∙ (rw (eq-eqb _ 0 met)))
     c.tree_of.result c.moved-reached.result c.tree_of.ensures c.moved-reached.ensures _ (not-false _ c.if-not-reached.false) c.copy_rows.ensures

@@ -12,7 +12,7 @@ returns-then-count-need c =
       λ e. absurd (subst T e tt),
       λ nodes given. judges_closed _ _ _ _ _ _ refl
           (short given a.kinds a.costs.now a.leads.now (omega arith) (omega arith)
-          c.weights-weights.result c.lightest-chosen.ensures (λ e. c.if-count-need.true (c.count.ensures.0 ∙ e))),
+          c.weights-weights.result c.lightest-chosen.ensures (λ e. omega (arith, c.count.ensures.0, e))),
     )
 
 pub returns-then-exceed : goal.returns-then-exceed
