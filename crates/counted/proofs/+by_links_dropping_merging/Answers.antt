@@ -1,6 +1,7 @@
 use Rattle.std.proofs.Common.{◌-◌, arith, length-set, rules}
 use Rattle.counts.proofs.Arrays.{merged_must}
-use Rattle.counted.proofs.Steps.{answer_cleared, answer_enough, answer_merged, answer_next, answer_pair, answer_single, answer_zero, level_kept, linking_end, linking_next, linking_none, linking_one, linking_two, links_fewer}
+use Rattle.counted.proofs.Steps.{answer_cleared, answer_enough, answer_merged, answer_next, answer_pair, answer_single, answer_zero}
+use Rattle.counted.proofs.Steps.{level_kept, linking_end, linking_next, linking_none, linking_one, linking_two, links_fewer}
 use Rattle.counted.proofs.+by_links_dropping_merging.Goals as goal
 
 pub by_links-returns-then-x-v : goal.by_links-returns-then-x-v

@@ -20,13 +20,14 @@ pub returns-then-k-eq0 : goal.returns-then-k-eq0
 returns-then-k-eq0 c = nothing _ _ c.if-k-eq0.true
 
 pub dropping-requires : goal.dropping-requires
-dropping-requires c = (
-  omega (arith, nodes (goal.at.dropping-requires c).Joined-k-lt32, c.if-k-eq0.false),
-  omega (arith, nodes (goal.at.dropping-requires c).Joined-k-lt32),
-  search rules,
-  omega (arith, nodes (goal.at.dropping-requires c).Joined-k-lt32, c.copy_costs.auto.costs),
-  omega (arith, nodes (goal.at.dropping-requires c).Joined-k-lt32, c.copy_costs-2.auto.costs),
-)
+dropping-requires c =
+    let at = goal.at.dropping-requires c in (
+      omega (arith, nodes at.Joined-k-lt32, c.if-k-eq0.false),
+      omega (arith, nodes at.Joined-k-lt32),
+      search rules,
+      omega (arith, nodes at.Joined-k-lt32, c.copy_costs.auto.costs),
+      omega (arith, nodes at.Joined-k-lt32, c.copy_costs-2.auto.costs),
+    )
 
 pub returns : goal.returns
 returns c =

@@ -26,14 +26,16 @@ digits-requires-2 c = omega (arith, (few (goal.at.digits-requires-2 c).Start).1)
 
 pub overflow_add-result-2 : goal.overflow_add-result-2
 overflow_add-result-2 c =
-    omega (arith, c.digits.ensures, c.digits-2.ensures, (few_digits (goal.at.overflow_add-result-2 c).Start).0, (few_digits (goal.at.overflow_add-result-2 c).Start).1)
+    let at = goal.at.overflow_add-result-2 c in
+    omega (arith, c.digits.ensures, c.digits-2.ensures, (few_digits at.Start).0, (few_digits at.Start).1)
 
 pub edges_length-requires : goal.edges_length-requires
 edges_length-requires c = ((few (goal.at.edges_length-requires c).Start).1, (few (goal.at.edges_length-requires c).Start).2)
 
 pub overflow_add-result-3 : goal.overflow_add-result-3
 overflow_add-result-3 c =
-    omega (arith, c.digits.ensures, c.digits-2.ensures, c.edges_length.ensures.1, (few_digits (goal.at.overflow_add-result-3 c).Start).0, (few_digits (goal.at.overflow_add-result-3 c).Start).1)
+    let at = goal.at.overflow_add-result-3 c in
+    omega (arith, c.digits.ensures, c.digits-2.ensures, c.edges_length.ensures.1, (few_digits at.Start).0, (few_digits at.Start).1)
 
 pub returns : goal.returns
 returns c =

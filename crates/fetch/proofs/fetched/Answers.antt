@@ -41,7 +41,8 @@ slice_bounds-rows-end c = omega (arith, ends c)
 pub returns-then-number-ne0 : goal.returns-then-number-ne0
 returns-then-number-ne0 c f o right =
     let unmet : ¬ (c.number-number.result ≡ 0) = omega arith in
-    fetched_entry o _ c.width-width.ensures _ right _ _ _ c.if-buffer-width.false (ends (goal.at.returns-then-number-ne0 c).Else-entries-entry) _ (c.number-number.ensures f o ∙ (rw (ne_eqb _ 0 unmet)))
+    fetched_entry o _ c.width-width.ensures _ right _ _ _ c.if-buffer-width.false (ends (goal.at.returns-then-number-ne0 c).Else-entries-entry) _
+    (c.number-number.ensures f o ∙ (rw (ne_eqb _ 0 unmet)))
 
 pub overflow_cast-moves : goal.overflow_cast-moves
 overflow_cast-moves c = omega (arith, moves_few c.args.spacing c.args.tree c.if-spacing-eq0.false)

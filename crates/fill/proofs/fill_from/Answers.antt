@@ -59,7 +59,9 @@ shown c nodes_long' width_is' rows_long' pivots_long' begin ok begins =
 
 pub returns-then-page-at : goal.returns-then-page-at
 returns-then-page-at c begin ok starts begins =
-    kept_full (width_is (goal.at.returns-then-page-at c).Else-width-gt31) (wide (goal.at.returns-then-page-at c).Else-width-gt31) c.loop-some.invariant begin ok starts (shown (goal.at.returns-then-page-at c).After-gather (nodes_long (goal.at.returns-then-page-at c).Start) (width_is (goal.at.returns-then-page-at c).Else-width-gt31) (rows_long (goal.at.returns-then-page-at c).Start) (pivots_long (goal.at.returns-then-page-at c).Start) begin ok begins) c.loop-some-test.true c.if-page-at.true
+    let at = goal.at.returns-then-page-at c in
+    kept_full (width_is at.Else-width-gt31) (wide at.Else-width-gt31) c.loop-some.invariant begin ok starts
+    (shown at.After-gather (nodes_long at.Start) (width_is at.Else-width-gt31) (rows_long at.Start) (pivots_long at.Start) begin ok begins) c.loop-some-test.true c.if-page-at.true
 
 pub slice_bounds-rows-end : goal.slice_bounds-rows-end
 slice_bounds-rows-end c = search rules
@@ -79,10 +81,11 @@ loop-some-smaller-then-turn c =
 
 pub loop-some-preserved-then-turn : goal.loop-some-preserved-then-turn
 loop-some-preserved-then-turn c =
+    let at = goal.at.loop-some-preserved-then-turn c in
     let taken = c.take_turn in
     let copied = c.copy_rows in
-    kept_turn (width_is (goal.at.loop-some-preserved-then-turn c).Else-width-gt31) (wide (goal.at.loop-some-preserved-then-turn c).Else-width-gt31) c.loop-some.invariant c.loop-some-test.true c.if-width-gt31.false
-    (omega (arith, wide (goal.at.loop-some-preserved-then-turn c).Else-width-gt31, c.if-page-at.false)) c.next_turn-turn.result copied.ensures copied.auto.rows c.next_turn-turn.ensures
+    kept_turn (width_is at.Else-width-gt31) (wide at.Else-width-gt31) c.loop-some.invariant c.loop-some-test.true c.if-width-gt31.false
+    (omega (arith, wide at.Else-width-gt31, c.if-page-at.false)) c.next_turn-turn.result copied.ensures copied.auto.rows c.next_turn-turn.ensures
     c.if-turn.true taken.ensures taken.auto.entered taken.auto.rows
 
 pub loop-some-smaller : goal.loop-some-smaller
@@ -91,10 +94,13 @@ loop-some-smaller c =
 
 pub loop-some-preserved : goal.loop-some-preserved
 loop-some-preserved c =
+    let at = goal.at.loop-some-preserved c in
     let copied = c.copy_rows in
-    kept_last (width_is (goal.at.loop-some-preserved c).Else-width-gt31) (wide (goal.at.loop-some-preserved c).Else-width-gt31) c.loop-some.invariant c.loop-some-test.true c.if-width-gt31.false
-    (omega (arith, wide (goal.at.loop-some-preserved c).Else-width-gt31, c.if-page-at.false)) c.next_turn-turn.result copied.ensures copied.auto.rows c.next_turn-turn.ensures c.if-turn.false
+    kept_last (width_is at.Else-width-gt31) (wide at.Else-width-gt31) c.loop-some.invariant c.loop-some-test.true c.if-width-gt31.false
+    (omega (arith, wide at.Else-width-gt31, c.if-page-at.false)) c.next_turn-turn.result copied.ensures copied.auto.rows c.next_turn-turn.ensures c.if-turn.false
 
 pub returns : goal.returns
 returns c begin ok starts begins =
-    kept_over (width_is (goal.at.returns c).Else-width-gt31) (wide (goal.at.returns c).Else-width-gt31) c.loop-some.invariant begin ok starts (shown (goal.at.returns c).After-gather (nodes_long (goal.at.returns c).Start) (width_is (goal.at.returns c).Else-width-gt31) (rows_long (goal.at.returns c).Start) (pivots_long (goal.at.returns c).Start) begin ok begins) c.loop-some-test.false
+    let at = goal.at.returns c in
+    kept_over (width_is at.Else-width-gt31) (wide at.Else-width-gt31) c.loop-some.invariant begin ok starts
+    (shown at.After-gather (nodes_long at.Start) (width_is at.Else-width-gt31) (rows_long at.Start) (pivots_long at.Start) begin ok begins) c.loop-some-test.false

@@ -39,14 +39,16 @@ fitting c f o right tree = sym (c.fits.ensures (walk_given o tree) (c.first_tree
 
 pub returns-then-not-fits : goal.returns-then-not-fits
 returns-then-not-fits c f o right =
+    let at = goal.at.returns-then-not-fits c in
     let wide : 0 < c.width-width.result = omega (arith, c.if-width-eq0.false) in
-    let some = some_tree_lem (goal.at.returns-then-not-fits c).Else-not-first f o in
+    let some = some_tree_lem at.Else-not-first f o in
     short_given o _ right _ some
-    (fits_short (length (indexed c.args.spacing (list_in c.args.chart.now))) _ _ _ c.width-width.ensures wide (fitting (goal.at.returns-then-not-fits c).After-fits f o right some ∙ c.if-not-fits.true))
+    (fits_short (length (indexed c.args.spacing (list_in c.args.chart.now))) _ _ _ c.width-width.ensures wide (fitting at.After-fits f o right some ∙ c.if-not-fits.true))
 
 pub returns : goal.returns
 returns c f o right =
-    let some = some_tree_lem (goal.at.returns c).Else-not-first f o in
-    let room = fits_room (length (indexed c.args.spacing (list_in c.args.chart.now))) _ _ _ c.width-width.ensures (fitting (goal.at.returns c).After-fits f o right some ∙ c.if-not-fits.false) in
+    let at = goal.at.returns c in
+    let some = some_tree_lem at.Else-not-first f o in
+    let room = fits_room (length (indexed c.args.spacing (list_in c.args.chart.now))) _ _ _ c.width-width.ensures (fitting at.After-fits f o right some ∙ c.if-not-fits.false) in
     met_given o _ right _ some room _ _
     (c.write.ensures (walk_given o some) (c.first_tree-first.ensures f o) (spacing_least _ right) room)

@@ -40,20 +40,24 @@ written c ok first low = c.loop-tree.invariant.2 ok (rw (width_is c) first) low
 
 pub returns-then-index-at : goal.returns-then-index-at
 returns-then-index-at c ok first low room =
-    absurd (written_room _ _ _ (long (goal.at.returns-then-index-at c).At-loop-tree ok) (wide (goal.at.returns-then-index-at c).At-loop-tree) c.loop-tree.invariant.0 (written (goal.at.returns-then-index-at c).At-loop-tree ok first low) _ (width_is (goal.at.returns-then-index-at c).At-loop-tree) room c.loop-tree-test.true c.if-index-at.true)
+    let at = goal.at.returns-then-index-at c in
+    absurd (written_room _ _ _ (long at.At-loop-tree ok) (wide at.At-loop-tree) c.loop-tree.invariant.0 (written at.At-loop-tree ok first low) _ (width_is at.At-loop-tree) room
+    c.loop-tree-test.true c.if-index-at.true)
 
 pub loop-tree-preserved : goal.loop-tree-preserved
 loop-tree-preserved c =
+    let at = goal.at.loop-tree-preserved c in
     let copied = c.copy_rows in
     let places = c.loop-tree.invariant.0 in
-    let room : c.loop-tree.at + c.width-width.result ≤ length c.loop-tree.index = omega (arith, wide (goal.at.loop-tree-preserved c).At-loop-tree, c.if-index-at.false) in (
-      placed_next _ _ places (wide (goal.at.loop-tree-preserved c).At-loop-tree) room copied.auto.rows,
+    let room : c.loop-tree.at + c.width-width.result ≤ length c.loop-tree.index = omega (arith, wide at.At-loop-tree, c.if-index-at.false) in (
+      placed_next _ _ places (wide at.At-loop-tree) room copied.auto.rows,
       c.moved-tree.type_inv.1.1.1.0.1.0.1,
       λ ok first low.
-          written_next _ _ _ (long (goal.at.loop-tree-preserved c).At-loop-tree ok) (wide (goal.at.loop-tree-preserved c).At-loop-tree) places (c.loop-tree.invariant.2 ok first low) low c.loop-tree-test.true _ room copied.ensures _
-          (subst (λ (w : ℕ). Moved w c.args.spacing (list_in c.args.chart.now) c.loop-tree.tree c.moved-tree.result) (sym (width_is (goal.at.loop-tree-preserved c).At-loop-tree)) (λ i. c.moved-tree.ensures i ok)),
+          written_next _ _ _ (long at.At-loop-tree ok) (wide at.At-loop-tree) places (c.loop-tree.invariant.2 ok first low) low c.loop-tree-test.true _ room copied.ensures _
+          (subst (λ (w : ℕ). Moved w c.args.spacing (list_in c.args.chart.now) c.loop-tree.tree c.moved-tree.result) (sym (width_is at.At-loop-tree)) (λ i. c.moved-tree.ensures i ok)),
     )
 
 pub returns : goal.returns
 returns c ok first low room =
-    written_over _ _ _ (long (goal.at.returns c).At-loop-tree ok) (wide (goal.at.returns c).At-loop-tree) c.loop-tree.invariant.0 (written (goal.at.returns c).At-loop-tree ok first low) c.loop-tree-test.false
+    let at = goal.at.returns c in
+    written_over _ _ _ (long at.At-loop-tree ok) (wide at.At-loop-tree) c.loop-tree.invariant.0 (written at.At-loop-tree ok first low) c.loop-tree-test.false

@@ -9,7 +9,8 @@ use Rattle.labels.proofs.Laws.{chosen_from}
 use Rattle.labels.proofs.choose.Given as goal
 
 abbrev pub invariant-loop-i : goal.invariant-loop-i
-invariant-loop-i l = (length (rows_of l.chosen) ≤ 31) × (take 31 (choose_few l.firsts l.seconds l.need l.initial.labels (filter_b (is_on l.flags) l.order)) ≡ chosen_from l.firsts l.seconds l.flags l.order l.left l.labels (rows_of l.chosen) l.i)
+invariant-loop-i l = (length (rows_of l.chosen) ≤ 31)
+    × (take 31 (choose_few l.firsts l.seconds l.need l.initial.labels (filter_b (is_on l.flags) l.order)) ≡ chosen_from l.firsts l.seconds l.flags l.order l.left l.labels (rows_of l.chosen) l.i)
 
 abbrev pub decreases-loop-i : goal.decreases-loop-i
 decreases-loop-i l = length l.order - l.i

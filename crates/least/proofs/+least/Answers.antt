@@ -39,7 +39,8 @@ returns-then-k-lt2 t c =
 
 pub returns-then-k-lt3 : goal.returns-then-k-lt3
 returns-then-k-lt3 t c =
-    search_two _ _ _ _ _ _ _ _ _ _ _ _ _ c.loop-lows.lower c.if-lows-one.lows c.if-lows-one.best _ (first t (goal.at.returns-then-k-lt3 t c).Joined-lows-one) c.place_inside-at.ensures c.if-at-known.false c.if-k-lt3.true
+    search_two _ _ _ _ _ _ _ _ _ _ _ _ _ c.loop-lows.lower c.if-lows-one.lows c.if-lows-one.best _ (first t (goal.at.returns-then-k-lt3 t c).Joined-lows-one) c.place_inside-at.ensures
+    c.if-at-known.false c.if-k-lt3.true
 
 pub loop-lows-smaller-then-three-lows : goal.loop-lows-smaller-then-three-lows
 loop-lows-smaller-then-three-lows t c =
@@ -47,7 +48,8 @@ loop-lows-smaller-then-three-lows t c =
 
 pub loop-lows-preserved-then-three-lows : goal.loop-lows-preserved-then-three-lows
 loop-lows-preserved-then-three-lows t c =
-    search_rest _ _ _ _ _ _ _ _ _ _ _ _ _ c.loop-lows.lower c.if-lows-one.lows c.if-lows-one.best _ (first t (goal.at.loop-lows-preserved-then-three-lows t c).Joined-lows-one) c.place_inside-at.ensures c.if-at-known.false (omega arith)
+    search_rest _ _ _ _ _ _ _ _ _ _ _ _ _ c.loop-lows.lower c.if-lows-one.lows c.if-lows-one.best _ (first t (goal.at.loop-lows-preserved-then-three-lows t c).Joined-lows-one)
+    c.place_inside-at.ensures c.if-at-known.false (omega arith)
     (rw (sym c.known_at-three.ensures) c.if-three-lows.true) _ c.known_at.ensures
 
 pub least-best-requires : goal.least-best-requires
@@ -70,6 +72,7 @@ loop-lows-smaller t c =
 
 pub loop-lows-preserved : goal.loop-lows-preserved
 loop-lows-preserved t c =
-    search_both _ _ _ _ _ _ _ _ _ _ _ _ _ c.loop-lows.lower c.if-lows-one.lows c.if-lows-one.best _ (first t (goal.at.loop-lows-preserved t c).Joined-lows-one) c.place_inside-at.ensures c.if-at-known.false (omega arith)
+    search_both _ _ _ _ _ _ _ _ _ _ _ _ _ c.loop-lows.lower c.if-lows-one.lows c.if-lows-one.best _ (first t (goal.at.loop-lows-preserved t c).Joined-lows-one) c.place_inside-at.ensures
+    c.if-at-known.false (omega arith)
     _ c.known_at-three.ensures c.if-three-lows.false _ c.with_limit-part.ensures
     c.least-best.result c.least-best.ensures _ c.known_at.ensures

@@ -53,7 +53,9 @@ pub slice_bounds-part-end : goal.slice_bounds-part-end
 slice_bounds-part-end c = part_bound (goal.at.slice_bounds-part-end c).After-smaller-trees (narrow (goal.at.slice_bounds-part-end c).Else-width-gt31)
 
 pub slice_bounds-fill-end : goal.slice_bounds-fill-end
-slice_bounds-fill-end c = sym (length-take-le _ _ (part_bound (goal.at.slice_bounds-fill-end c).After-smaller-trees (narrow (goal.at.slice_bounds-fill-end c).Else-width-gt31)))
+slice_bounds-fill-end c =
+    let at = goal.at.slice_bounds-fill-end c in
+    sym (length-take-le _ _ (part_bound at.After-smaller-trees (narrow at.Else-width-gt31)))
 
 pub slice_bounds-rows-end : goal.slice_bounds-rows-end
 slice_bounds-rows-end c = search rules
@@ -63,8 +65,10 @@ slice_bounds-fill-end-in-loop-left c = sym (length-take-le _ _ (slice_bounds-row
 
 pub returns-then-filled-trees : goal.returns-then-filled-trees
 returns-then-filled-trees c i ok e =
-    kept_short c.loop-left.invariant (width_is (goal.at.returns-then-filled-trees c).Else-width-gt31) _ c.smaller-trees.ensures c.loop-left-test.true (part_bound (goal.at.returns-then-filled-trees c).After-smaller-trees (narrow (goal.at.returns-then-filled-trees c).Else-width-gt31)) _ _ c.fill-filled.ensures
-    c.if-filled-trees.true i ok (first (goal.at.returns-then-filled-trees c).Else-width-gt31 i e)
+    let at = goal.at.returns-then-filled-trees c in
+    kept_short c.loop-left.invariant (width_is at.Else-width-gt31) _ c.smaller-trees.ensures c.loop-left-test.true (part_bound at.After-smaller-trees (narrow at.Else-width-gt31)) _ _
+    c.fill-filled.ensures
+    c.if-filled-trees.true i ok (first at.Else-width-gt31 i e)
 
 -- the part is full: there is a tree in it
 one_fits : (c : Else-filled-trees) → c.width-width.result ≤ c.smaller-trees.result * c.width-width.result
@@ -80,18 +84,26 @@ pub overflow_sub-places : goal.overflow_sub-places
 overflow_sub-places c = omega (arith, one_fits (goal.at.overflow_sub-places c).Else-filled-trees)
 
 pub offset_bounds-part-places : goal.offset_bounds-part-places
-offset_bounds-part-places c = omega (arith, places_fit c.smaller-trees.result c.width-width.result (omega (arith, c.smaller-trees.ensures)) (narrow (goal.at.offset_bounds-part-places c).Else-width-gt31))
+offset_bounds-part-places c = omega (
+  arith,
+  places_fit c.smaller-trees.result c.width-width.result (omega (arith, c.smaller-trees.ensures))
+      (narrow (goal.at.offset_bounds-part-places c).Else-width-gt31),
+)
 
 pub slice_bounds-copy_rows-end-in-loop-left : goal.slice_bounds-copy_rows-end-in-loop-left
-slice_bounds-copy_rows-end-in-loop-left c = omega (arith, places_fit c.smaller-trees.result c.width-width.result (omega (arith, c.smaller-trees.ensures)) (narrow (goal.at.slice_bounds-copy_rows-end-in-loop-left c).Else-width-gt31), part_long (goal.at.slice_bounds-copy_rows-end-in-loop-left c).Else-filled-trees)
+slice_bounds-copy_rows-end-in-loop-left c =
+    let at = goal.at.slice_bounds-copy_rows-end-in-loop-left c in
+    omega (arith, places_fit c.smaller-trees.result c.width-width.result (omega (arith, c.smaller-trees.ensures)) (narrow at.Else-width-gt31), part_long at.Else-filled-trees)
 
 pub loop-left-preserved : goal.loop-left-preserved
 loop-left-preserved c =
+    let at = goal.at.loop-left-preserved c in
     let filled = c.fill-filled in
     let copied = c.copy_rows in
-    kept_next c.loop-left.invariant (width_is (goal.at.loop-left-preserved c).Else-width-gt31) _ c.smaller-trees.ensures c.loop-left-test.true (part_bound (goal.at.loop-left-preserved c).After-smaller-trees (narrow (goal.at.loop-left-preserved c).Else-width-gt31)) _ _ filled.ensures
-    (narrow (goal.at.loop-left-preserved c).Else-width-gt31) (omega (arith, c.if-filled-trees.false)) filled.auto.page copied.ensures copied.auto.rows
+    kept_next c.loop-left.invariant (width_is at.Else-width-gt31) _ c.smaller-trees.ensures c.loop-left-test.true (part_bound at.After-smaller-trees (narrow at.Else-width-gt31)) _ _ filled.ensures
+    (narrow at.Else-width-gt31) (omega (arith, c.if-filled-trees.false)) filled.auto.page copied.ensures copied.auto.rows
 
 pub returns : goal.returns
 returns c i ok e =
-    kept_all c.loop-left.invariant (width_is (goal.at.returns c).Else-width-gt31) (omega (arith, c.loop-left-test.false)) i ok (first (goal.at.returns c).Else-width-gt31 i e)
+    let at = goal.at.returns c in
+    kept_all c.loop-left.invariant (width_is at.Else-width-gt31) (omega (arith, c.loop-left-test.false)) i ok (first at.Else-width-gt31 i e)

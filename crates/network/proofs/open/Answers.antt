@@ -52,8 +52,9 @@ passed4 c passed3' =
 pub returns-in_default-a4 : goal.returns-in_default-a4
 unfolding file_checks
 returns-in_default-a4 c =
+    let at = goal.at.returns-in_default-a4 c in
     open_stop _ c.header_of-header.ensures 3 refl c.in_default-a4.is (search rules)
-    ∙ sym (passed3 (goal.at.returns-in_default-a4 c).In-Header-a3 (passed2 (goal.at.returns-in_default-a4 c).In-Header-a2 (passed1 (goal.at.returns-in_default-a4 c).In-Header)))
+    ∙ sym (passed3 at.In-Header-a3 (passed2 at.In-Header-a2 (passed1 at.In-Header)))
 
 -- the file has the length that the checks behind it take as given
 fits : (c : In-Header-a4) → Fitting c.args.file.now (sizes_in c.header_of-header.result)
@@ -73,8 +74,9 @@ passed5 c passed4' =
 pub returns-in_default-a5 : goal.returns-in_default-a5
 unfolding file_checks
 returns-in_default-a5 c =
+    let at = goal.at.returns-in_default-a5 c in
     open_stop _ c.header_of-header.ensures 4 refl c.in_default-a5.is (search rules)
-    ∙ sym (passed4 (goal.at.returns-in_default-a5 c).In-Header-a4 (passed3 (goal.at.returns-in_default-a5 c).In-Header-a3 (passed2 (goal.at.returns-in_default-a5 c).In-Header-a2 (passed1 (goal.at.returns-in_default-a5 c).In-Header))))
+    ∙ sym (passed4 at.In-Header-a4 (passed3 at.In-Header-a3 (passed2 at.In-Header-a2 (passed1 at.In-Header))))
 
 pub check_ends-a6-requires : goal.check_ends-a6-requires
 check_ends-a6-requires c = search (rules, fits (goal.at.check_ends-a6-requires c).In-Header-a4)
@@ -89,8 +91,9 @@ passed6 c passed5' =
 pub returns-in_default-a6 : goal.returns-in_default-a6
 unfolding file_checks
 returns-in_default-a6 c =
+    let at = goal.at.returns-in_default-a6 c in
     open_stop _ c.header_of-header.ensures 5 refl c.in_default-a6.is (search rules)
-    ∙ sym (passed5 (goal.at.returns-in_default-a6 c).In-Header-a5 (passed4 (goal.at.returns-in_default-a6 c).In-Header-a4 (passed3 (goal.at.returns-in_default-a6 c).In-Header-a3 (passed2 (goal.at.returns-in_default-a6 c).In-Header-a2 (passed1 (goal.at.returns-in_default-a6 c).In-Header)))))
+    ∙ sym (passed5 at.In-Header-a5 (passed4 at.In-Header-a4 (passed3 at.In-Header-a3 (passed2 at.In-Header-a2 (passed1 at.In-Header)))))
 
 pub check_costs-a7-requires : goal.check_costs-a7-requires
 check_costs-a7-requires c = search (rules, fits (goal.at.check_costs-a7-requires c).In-Header-a4)
@@ -105,8 +108,9 @@ passed7 c passed6' =
 pub returns-in_default-a7 : goal.returns-in_default-a7
 unfolding file_checks
 returns-in_default-a7 c =
+    let at = goal.at.returns-in_default-a7 c in
     open_stop _ c.header_of-header.ensures 6 refl c.in_default-a7.is (search rules)
-    ∙ sym (passed6 (goal.at.returns-in_default-a7 c).In-Header-a6 (passed5 (goal.at.returns-in_default-a7 c).In-Header-a5 (passed4 (goal.at.returns-in_default-a7 c).In-Header-a4 (passed3 (goal.at.returns-in_default-a7 c).In-Header-a3 (passed2 (goal.at.returns-in_default-a7 c).In-Header-a2 (passed1 (goal.at.returns-in_default-a7 c).In-Header))))))
+    ∙ sym (passed6 at.In-Header-a6 (passed5 at.In-Header-a5 (passed4 at.In-Header-a4 (passed3 at.In-Header-a3 (passed2 at.In-Header-a2 (passed1 at.In-Header))))))
 
 pub check_states-a14-requires : goal.check_states-a14-requires
 check_states-a14-requires c = search (rules, fits (goal.at.check_states-a14-requires c).In-Header-a4)
@@ -121,8 +125,12 @@ passed8 c passed7' =
 pub returns-in_default-a14 : goal.returns-in_default-a14
 unfolding file_checks
 returns-in_default-a14 c =
+    let at = goal.at.returns-in_default-a14 c in
     open_stop _ c.header_of-header.ensures 7 refl c.in_default-a14.is (search rules)
-    ∙ sym (passed7 (goal.at.returns-in_default-a14 c).In-Header-a7 (passed6 (goal.at.returns-in_default-a14 c).In-Header-a6 (passed5 (goal.at.returns-in_default-a14 c).In-Header-a5 (passed4 (goal.at.returns-in_default-a14 c).In-Header-a4 (passed3 (goal.at.returns-in_default-a14 c).In-Header-a3 (passed2 (goal.at.returns-in_default-a14 c).In-Header-a2 (passed1 (goal.at.returns-in_default-a14 c).In-Header)))))))
+    ∙ sym (passed7 at.In-Header-a7 (passed6 at.In-Header-a6 (passed5 at.In-Header-a5 (passed4 at.In-Header-a4 (passed3 at.In-Header-a3 (passed2 at.In-Header-a2 (passed1 at.In-Header)))))))
 
 pub returns : goal.returns
-returns c = open_end_lem _ c.header_of-header.ensures ∙ sym (passed8 c (passed7 (goal.at.returns c).In-Header-a7 (passed6 (goal.at.returns c).In-Header-a6 (passed5 (goal.at.returns c).In-Header-a5 (passed4 (goal.at.returns c).In-Header-a4 (passed3 (goal.at.returns c).In-Header-a3 (passed2 (goal.at.returns c).In-Header-a2 (passed1 (goal.at.returns c).In-Header))))))))
+returns c =
+    let at = goal.at.returns c in
+    open_end_lem _ c.header_of-header.ensures ∙ sym
+    (passed8 c (passed7 at.In-Header-a7 (passed6 at.In-Header-a6 (passed5 at.In-Header-a5 (passed4 at.In-Header-a4 (passed3 at.In-Header-a3 (passed2 at.In-Header-a2 (passed1 at.In-Header))))))))

@@ -33,26 +33,31 @@ begun c = c.begin-begun.ensures c.args.file.now (charted c)
 
 pub returns-then-not-begun : goal.returns-then-not-begun
 returns-then-not-begun c =
+    let at = goal.at.returns-then-not-begun c in
     let s = c.args in
-    page_none s.file.now s.page.now s.start.now (charted (goal.at.returns-then-not-begun c).After-begin-begun).met ((begun (goal.at.returns-then-not-begun c).After-begin-begun).tree ∙ not-true _ c.if-not-begun.true)
+    page_none s.file.now s.page.now s.start.now (charted at.After-begin-begun).met ((begun at.After-begin-begun).tree ∙ not-true _ c.if-not-begun.true)
 
 pub returns-then-page-width : goal.returns-then-page-width
 returns-then-page-width c =
+    let at = goal.at.returns-then-page-width c in
     let s = c.args in
-    page_short s.file.now s.page.now s.start.now (charted (goal.at.returns-then-page-width c).After-begin-begun).met ((begun (goal.at.returns-then-page-width c).After-begin-begun).tree ∙ not-false _ c.if-not-begun.false)
-    (rw (← width_read (charted (goal.at.returns-then-page-width c).After-begin-begun), ← c.width.ensures) c.if-page-width.true)
+    page_short s.file.now s.page.now s.start.now (charted at.After-begin-begun).met ((begun at.After-begin-begun).tree ∙ not-false _ c.if-not-begun.false)
+    (rw (← width_read (charted at.After-begin-begun), ← c.width.ensures) c.if-page-width.true)
 
 pub returns-then-begun-ne0 : goal.returns-then-begun-ne0
 returns-then-begun-ne0 c =
+    let at = goal.at.returns-then-begun-ne0 c in
     let s = c.args in
-    page_start s.file.now s.page.now s.start.now (charted (goal.at.returns-then-begun-ne0 c).After-begin-begun).met ((begun (goal.at.returns-then-begun-ne0 c).After-begin-begun).tree ∙ not-false _ c.if-not-begun.false)
-    (rw (← width_read (charted (goal.at.returns-then-begun-ne0 c).After-begin-begun), ← c.width.ensures) c.if-page-width.false) _ ((begun (goal.at.returns-then-begun-ne0 c).After-begin-begun).number ∙ (rw (ne_eqb _ 0 c.if-begun-ne0.true)))
+    page_start s.file.now s.page.now s.start.now (charted at.After-begin-begun).met ((begun at.After-begin-begun).tree ∙ not-false _ c.if-not-begun.false)
+    (rw (← width_read (charted at.After-begin-begun), ← c.width.ensures) c.if-page-width.false) _ ((begun at.After-begin-begun).number ∙ (rw (ne_eqb _ 0 c.if-begun-ne0.true)))
 
 pub returns : goal.returns
 returns c =
+    let at = goal.at.returns c in
     let s = c.args in
     let tried = not-false _ c.if-not-begun.false in
-    let some_tree_lem = (begun (goal.at.returns c).After-begin-begun).tree ∙ tried in
-    let ok : first_unmet (start_checks (network_of s.file.now) s.start.now) ≡ none = (begun (goal.at.returns c).After-begin-begun).number ∙ (rw (eq-eqb _ 0 c.if-begun-ne0.false)) in
-    page_given (charted (goal.at.returns c).After-begin-begun) s.start.now ok s.page.now _ some_tree_lem (rw (← c.width.ensures) c.if-page-width.false)
-    (c.fill_from-filled.ensures s.start.now (walk_given (charted (goal.at.returns c).After-begin-begun) some_tree_lem) (start_given (charted (goal.at.returns c).After-begin-begun) s.start.now ok) ((begun (goal.at.returns c).After-begin-begun).next tried c.if-begun-ne0.false))
+    let some_tree_lem = (begun at.After-begin-begun).tree ∙ tried in
+    let ok : first_unmet (start_checks (network_of s.file.now) s.start.now) ≡ none = (begun at.After-begin-begun).number ∙ (rw (eq-eqb _ 0 c.if-begun-ne0.false)) in
+    page_given (charted at.After-begin-begun) s.start.now ok s.page.now _ some_tree_lem (rw (← c.width.ensures) c.if-page-width.false)
+    (c.fill_from-filled.ensures s.start.now (walk_given (charted at.After-begin-begun) some_tree_lem) (start_given (charted at.After-begin-begun) s.start.now ok)
+    ((begun at.After-begin-begun).next tried c.if-begun-ne0.false))

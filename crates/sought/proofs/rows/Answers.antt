@@ -47,7 +47,9 @@ pub shape_of-witnesses-else-next : goal.shape_of-witnesses-else-next
 shape_of-witnesses-else-next c = (standing_long _ _ _ (stands (goal.at.shape_of-witnesses-else-next c).At-loop-kinds)).1
 
 pub returns-else-next : goal.returns-else-next
-returns-else-next c = row_whole _ _ _ (stands (goal.at.returns-else-next c).At-loop-kinds) _ (told (goal.at.returns-else-next c).After-next_row-next) c.if-next.false
+returns-else-next c =
+    let at = goal.at.returns-else-next c in
+    row_whole _ _ _ (stands at.At-loop-kinds) _ (told at.After-next_row-next) c.if-next.false
 
 pub shape_of-costs-then-count-capacity : goal.shape_of-costs-then-count-capacity
 shape_of-costs-then-count-capacity c = (standing_long _ _ _ (stands (goal.at.shape_of-costs-then-count-capacity c).At-loop-kinds)).0
@@ -56,21 +58,25 @@ pub shape_of-witnesses-then-count-capacity : goal.shape_of-witnesses-then-count-
 shape_of-witnesses-then-count-capacity c = (standing_long _ _ _ (stands (goal.at.shape_of-witnesses-then-count-capacity c).At-loop-kinds)).1
 
 pub returns-then-count-capacity : goal.returns-then-count-capacity
-returns-then-count-capacity c = row_cut _ _ _ (stands (goal.at.returns-then-count-capacity c).At-loop-kinds) _ (told (goal.at.returns-then-count-capacity c).After-next_row-next) c.if-next.true c.if-count-capacity.true
+returns-then-count-capacity c =
+    let at = goal.at.returns-then-count-capacity c in
+    row_cut _ _ _ (stands at.At-loop-kinds) _ (told at.After-next_row-next) c.if-next.true c.if-count-capacity.true
 
 pub witness-path-requires : goal.witness-path-requires
-witness-path-requires c = (
-  c.requires.0.ready,
-  rw c.limits_above-limits.ensures (up_past _ c.next_row-next.result.vector),
-  rw c.limits_above-limits.ensures (row_wanted _ _ _ (stands (goal.at.witness-path-requires c).At-loop-kinds) _ (told (goal.at.witness-path-requires c).After-next_row-next) c.if-next.true),
-)
+witness-path-requires c =
+    let at = goal.at.witness-path-requires c in (
+      c.requires.0.ready,
+      rw c.limits_above-limits.ensures (up_past _ c.next_row-next.result.vector),
+      rw c.limits_above-limits.ensures (row_wanted _ _ _ (stands at.At-loop-kinds) _ (told at.After-next_row-next) c.if-next.true),
+    )
 
 pub write-requires : goal.write-requires
 write-requires c =
+    let at = goal.at.write-requires c in
     let wide = c.width-width.ensures in (
-      rw wide (standing_room _ _ _ (stands (goal.at.write-requires c).At-loop-kinds) c.if-count-capacity.false),
+      rw wide (standing_room _ _ _ (stands at.At-loop-kinds) c.if-count-capacity.false),
       c.requires.0.ready.tables.few_criteria,
-      wide ∙ sym (path_long _ _ _ (stands (goal.at.write-requires c).At-loop-kinds) _ (told (goal.at.write-requires c).After-next_row-next) c.if-next.true _ (first (goal.at.write-requires c).After-witness-path)),
+      wide ∙ sym (path_long _ _ _ (stands at.At-loop-kinds) _ (told at.After-next_row-next) c.if-next.true _ (first at.After-witness-path)),
     )
 
 pub overflow_add-count : goal.overflow_add-count
@@ -82,9 +88,11 @@ loop-kinds-smaller c =
     omega (arith, (stands (goal.at.loop-kinds-smaller c).At-loop-kinds).fits, c.if-count-capacity.false)
 
 pub loop-kinds-preserved : goal.loop-kinds-preserved
-loop-kinds-preserved c = λ s four lent.
+loop-kinds-preserved c =
+    let spot = goal.at.loop-kinds-preserved c in
+    λ s four lent.
     let st = c.loop-kinds.invariant s four lent in
     let wide = c.width-width.ensures in
-    row_more s four lent st _ (told (goal.at.loop-kinds-preserved c).After-next_row-next) c.if-next.true _ (first (goal.at.loop-kinds-preserved c).After-witness-path) c.if-count-capacity.false _ _ _ _ c.write.ensures.0
-    (row_read s four lent st _ (told (goal.at.loop-kinds-preserved c).After-next_row-next) c.if-next.true) (rw wide at c.write.ensures.1)
-    (take_all (width_in c.args.chart.now) (rows_in c.witness-path.result) (omega (arith, path_long s four lent st _ (told (goal.at.loop-kinds-preserved c).After-next_row-next) c.if-next.true _ (first (goal.at.loop-kinds-preserved c).After-witness-path))))
+    row_more s four lent st _ (told spot.After-next_row-next) c.if-next.true _ (first spot.After-witness-path) c.if-count-capacity.false _ _ _ _ c.write.ensures.0
+    (row_read s four lent st _ (told spot.After-next_row-next) c.if-next.true) (rw wide at c.write.ensures.1)
+    (take_all (width_in c.args.chart.now) (rows_in c.witness-path.result) (omega (arith, path_long s four lent st _ (told spot.After-next_row-next) c.if-next.true _ (first spot.After-witness-path))))

@@ -9,7 +9,8 @@ use Rattle.sought.proofs.Tables.{Standing}
 use Rattle.sought.proofs.rows.Given as goal
 
 abbrev pub invariant-loop-kinds : goal.invariant-loop-kinds
-invariant-loop-kinds l = (s : Searched l.chart l.firsts l.seconds l.heads l.kinds l.k l.prices l.leads) (four : length l.kinds ≡ 4) (lent : Holding l.capacity l.k (width_in l.chart) l.initial.costs l.initial.witnesses)
+invariant-loop-kinds l = (s : Searched l.chart l.firsts l.seconds l.heads l.kinds l.k l.prices l.leads) (four : length l.kinds ≡ 4)
+    (lent : Holding l.capacity l.k (width_in l.chart) l.initial.costs l.initial.witnesses)
     → Standing s four lent l.count l.costs l.witnesses
 
 abbrev pub decreases-loop-kinds : goal.decreases-loop-kinds

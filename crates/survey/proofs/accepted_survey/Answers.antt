@@ -53,8 +53,9 @@ overflow_cast-result c = omega (arith, short (goal.at.overflow_cast-result c).El
 
 pub returns : goal.returns
 returns c =
-    let size = file_size c.requires _ (counted (goal.at.returns c).After-survivor_count-standing) in
+    let at = goal.at.returns c in
+    let size = file_size c.requires _ (counted at.After-survivor_count-standing) in
     let room : length (survey_file c.args.older.now c.args.newer.now) ≤ length c.args.buffer.now = omega (arith, c.if-buffer-length.false, size) in
-    let put = file_put c.requires _ (counted (goal.at.returns c).After-survivor_count-standing) _ c.put_head-headed.ensures c.put_survivors-stood.ensures c.put_rows.ensures room in
+    let put = file_put c.requires _ (counted at.After-survivor_count-standing) _ c.put_head-headed.ensures c.put_survivors-stood.ensures c.put_rows.ensures room in
     ap₂ {C = Ended ℕ (List ℕ)} (λ n l. record { outcome = answered n; buffers = l }) size put
-    ∙ survey_written _ _ _ c.requires (omega (arith, counted (goal.at.returns c).After-survivor_count-standing, c.if-m-gt256.false)) room
+    ∙ survey_written _ _ _ c.requires (omega (arith, counted at.After-survivor_count-standing, c.if-m-gt256.false)) room

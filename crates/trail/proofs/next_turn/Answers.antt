@@ -67,10 +67,14 @@ asked c kept' keys w =
     c.open_past.ensures
 
 pub returns-then-open_past : goal.returns-then-open_past
-returns-then-open_past c keys right full holds rows_are = (asked (goal.at.returns-then-open_past c).After-open_past (kept (goal.at.returns-then-open_past c).After-is_kept) keys (walked right full holds rows_are)).0 c.if-open_past.true
+returns-then-open_past c keys right full holds rows_are =
+    let at = goal.at.returns-then-open_past c in
+    (asked at.After-open_past (kept at.After-is_kept) keys (walked right full holds rows_are)).0 c.if-open_past.true
 
 pub loop-i-preserved-else-open_past : goal.loop-i-preserved-else-open_past
-loop-i-preserved-else-open_past c = (omega arith, λ keys w. (asked (goal.at.loop-i-preserved-else-open_past c).After-open_past (kept (goal.at.loop-i-preserved-else-open_past c).After-is_kept) keys w).1 c.if-open_past.false)
+loop-i-preserved-else-open_past c =
+    let at = goal.at.loop-i-preserved-else-open_past c in
+    (omega arith, λ keys w. (asked at.After-open_past (kept at.After-is_kept) keys w).1 c.if-open_past.false)
 
 pub loop-i-preserved : goal.loop-i-preserved
 loop-i-preserved c =

@@ -31,7 +31,8 @@ inside c = sym (c.below.ensures ∙ ap (λ (m : ℕ). all (λ r. ltb r m) c.args
 
 pub returns-then-not-below : goal.returns-then-not-below
 returns-then-not-below c =
-    refusal _ 9 c.refused-then-not-below.ensures (λ e. omega arith) ∙ sym (tried_9 _ _ (size (goal.at.returns-then-not-below c).After-below) (inside (goal.at.returns-then-not-below c).After-below ∙ c.if-not-below.true))
+    let at = goal.at.returns-then-not-below c in
+    refusal _ 9 c.refused-then-not-below.ensures (λ e. omega arith) ∙ sym (tried_9 _ _ (size at.After-below) (inside at.After-below ∙ c.if-not-below.true))
 
 known : (c : After-grown_over-path)
     → (all (λ r. ltb r (count_in c.args.chart.now)) c.args.rows.now ≡ c.below.result) → all (λ r. ltb r (count_in c.args.chart.now)) c.args.rows.now ≡ true
@@ -51,9 +52,11 @@ steps c grown' =
 
 pub returns-then-length-width : goal.returns-then-length-width
 returns-then-length-width c =
+    let at = goal.at.returns-then-length-width c in
     let width = c.width-width.ensures in
     refusal _ 10 c.refused-then-length-width.ensures (λ e. omega arith)
-    ∙ sym (tried_10 _ _ (size (goal.at.returns-then-length-width c).After-below) (known (goal.at.returns-then-length-width c).After-grown_over-path (inside (goal.at.returns-then-length-width c).After-below)) (λ e. c.if-length-width.true (steps (goal.at.returns-then-length-width c).After-length (grown (goal.at.returns-then-length-width c).After-grown_over-path) ∙ e ∙ sym width)))
+    ∙ sym (tried_10 _ _ (size at.After-below) (known at.After-grown_over-path (inside at.After-below))
+    (λ e. c.if-length-width.true (steps at.After-length (grown at.After-grown_over-path) ∙ e ∙ sym width)))
 
 -- check 10 is met, and what check 15 comes to
 whole : (c : Else-length-width)
@@ -67,10 +70,14 @@ states c =
 
 pub returns-then-not-kept : goal.returns-then-not-kept
 returns-then-not-kept c =
+    let at = goal.at.returns-then-not-kept c in
     refusal _ 15 c.refused-then-not-kept.ensures (λ e. omega arith)
-    ∙ sym (tried_15 _ _ (size (goal.at.returns-then-not-kept c).After-below) (known (goal.at.returns-then-not-kept c).After-grown_over-path (inside (goal.at.returns-then-not-kept c).After-below)) (whole (goal.at.returns-then-not-kept c).Else-length-width (steps (goal.at.returns-then-not-kept c).After-length (grown (goal.at.returns-then-not-kept c).After-grown_over-path))) (states (goal.at.returns-then-not-kept c).After-kept ∙ c.if-not-kept.true))
+    ∙ sym (tried_15 _ _ (size at.After-below) (known at.After-grown_over-path (inside at.After-below)) (whole at.Else-length-width (steps at.After-length (grown at.After-grown_over-path)))
+    (states at.After-kept ∙ c.if-not-kept.true))
 
 pub returns : goal.returns
 returns c =
-    ap₂ {C = Ended (Unit {0}) PathSteps} (λ plant keys. record { outcome = answered tt; buffers = record { plant = plant; keys = keys } }) c.grown_over-path.ensures.0 (grown (goal.at.returns c).After-grown_over-path)
-    ∙ sym (tried_met _ _ (size (goal.at.returns c).After-below) (known (goal.at.returns c).After-grown_over-path (inside (goal.at.returns c).After-below)) (whole (goal.at.returns c).Else-length-width (steps (goal.at.returns c).After-length (grown (goal.at.returns c).After-grown_over-path))) (states (goal.at.returns c).After-kept ∙ c.if-not-kept.false))
+    let at = goal.at.returns c in
+    ap₂ {C = Ended (Unit {0}) PathSteps} (λ plant keys. record { outcome = answered tt; buffers = record { plant = plant; keys = keys } }) c.grown_over-path.ensures.0 (grown at.After-grown_over-path)
+    ∙ sym (tried_met _ _ (size at.After-below) (known at.After-grown_over-path (inside at.After-below)) (whole at.Else-length-width (steps at.After-length (grown at.After-grown_over-path)))
+    (states at.After-kept ∙ c.if-not-kept.false))

@@ -32,8 +32,12 @@ rows c nodes_long' rows_long' pivots_long' = path_rows c.first_path-path.result 
 
 pub returns-then-steps-width : goal.returns-then-steps-width
 returns-then-steps-width c =
-    let grown = c.first_path-path.ensures in
-    (grown.0, first_short _ _ grown.1 (λ e. c.if-steps-width.true (steps (goal.at.returns-then-steps-width c).After-length-steps (nodes_long (goal.at.returns-then-steps-width c).After-first_path-path) (rows_long (goal.at.returns-then-steps-width c).After-first_path-path) (pivots_long (goal.at.returns-then-steps-width c).After-first_path-path) ∙ e ∙ sym c.width.ensures)))
+    let at = goal.at.returns-then-steps-width c in
+    let grown = c.first_path-path.ensures in (
+      grown.0,
+      first_short _ _ grown.1 (λ e. c.if-steps-width.true
+          (steps at.After-length-steps (nodes_long at.After-first_path-path) (rows_long at.After-first_path-path) (pivots_long at.After-first_path-path) ∙ e ∙ sym c.width.ensures)),
+    )
 
 pub slice_bounds-rows-end : goal.slice_bounds-rows-end
 slice_bounds-rows-end c =
@@ -45,5 +49,10 @@ slice_bounds-musts_met-end c =
 
 pub returns : goal.returns
 returns c =
-    let grown = c.first_path-path.ensures in
-    (grown.0, first_asked _ _ grown.1 (sym (steps (goal.at.returns c).After-length-steps (nodes_long (goal.at.returns c).After-first_path-path) (rows_long (goal.at.returns c).After-first_path-path) (pivots_long (goal.at.returns c).After-first_path-path)) ∙ c.if-steps-width.false ∙ c.width.ensures) (rw (rows (goal.at.returns c).After-length-steps (nodes_long (goal.at.returns c).After-first_path-path) (rows_long (goal.at.returns c).After-first_path-path) (pivots_long (goal.at.returns c).After-first_path-path)) at c.musts_met-met.ensures))
+    let spot = goal.at.returns c in
+    let grown = c.first_path-path.ensures in (
+      grown.0,
+      first_asked _ _ grown.1 (sym (steps spot.After-length-steps (nodes_long spot.After-first_path-path) (rows_long spot.After-first_path-path)
+          (pivots_long spot.After-first_path-path)) ∙ c.if-steps-width.false ∙ c.width.ensures)
+          (rw (rows spot.After-length-steps (nodes_long spot.After-first_path-path) (rows_long spot.After-first_path-path) (pivots_long spot.After-first_path-path)) at c.musts_met-met.ensures),
+    )

@@ -30,7 +30,8 @@ returns-then-beside-ne0 c =
 pub returns-then-open_past : goal.returns-then-open_past
 returns-then-open_past c = (
   c.grown_with-then-open_past.ensures.0,
-  ap some c.grown_with-then-open_past.ensures.1 ∙ skip_on _ _ _ _ _ _ (free (goal.at.returns-then-open_past c).Else-is_must) c.next_row-beside.ensures c.if-beside-ne0.false (sym c.open_past.ensures ∙ c.if-open_past.true),
+  ap some c.grown_with-then-open_past.ensures.1 ∙ skip_on _ _ _ _ _ _ (free (goal.at.returns-then-open_past c).Else-is_must) c.next_row-beside.ensures c.if-beside-ne0.false
+      (sym c.open_past.ensures ∙ c.if-open_past.true),
 )
 
 pub returns : goal.returns
