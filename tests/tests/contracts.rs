@@ -175,12 +175,12 @@ fn a_contract_that_says_something_else_is_noticed() {
         ("Operations.{page_call}", "Operations.{page_checks}"),
         ("buffers = page.new } ≡ page_call", "buffers = page.old } ≡ page_call"),
         ("≡ page_call file.now page.old start.now", "≡ page_call file.now page.old []"),
-        ("pub fn page(file: &[u8], page: &mut [u16], start: &[u16]) -> PageAnswer\n", "pub fn page(file: &[u8], page: &mut [u16], start: &[u16]) -> PageAnswer\n    requires { 0 < length file.now }\n"),
+        ("pub fn page(file: &[u8], page: &mut [u16], start: &[u16]) -> Result<Filled, Refusal>\n", "pub fn page(file: &[u8], page: &mut [u16], start: &[u16]) -> Result<Filled, Refusal>\n    requires { 0 < length file.now }\n"),
     ];
     // a parameter that stands in a record
     let office = [
         ("rows.now office h (record { first = first;", "rows.now office h (record { first = 0;"),
-        ("office h (record { first = first; second = second }) (record { costs = costs.old; witnesses = witnesses.old }) }\n{\n    let drawn", "office h (record { first = first; second = second }) (record { costs = []; witnesses = witnesses.old }) }\n{\n    let drawn"),
+        ("office h (record { first = first; second = second }) (record { costs = costs.old; witnesses = witnesses.old }) }\n{\n    let path", "office h (record { first = first; second = second }) (record { costs = []; witnesses = witnesses.old }) }\n{\n    let path"),
     ];
     for (function, changes) in [("page::page", &page[..]), ("office::office", &office[..])] {
         let row = demands()[0]

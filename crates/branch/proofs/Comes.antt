@@ -1,5 +1,5 @@
 -- The rows that may come, by the table of entries, are those of completions' `may_come` (`comes_is`), and so the flags are those of the usable rows (`flags_usable`).
-use mathlib.Core.Path.{◌∙◌, ◌≡◌, refl, subst, sym}
+use mathlib.Core.Path.{◌≡◌, refl, subst, sym}
 use mathlib.Core.Logic.{◌↔◌, ◌⊎◌, inl, inr, ⊎_elim}
 use mathlib.Core.Bool.{Bool, false, not, true}
 use mathlib.Core.Option.{some}
@@ -14,7 +14,7 @@ use borrow.Author.Tests.{eq-eqb, ne_eqb}
 use Rattle.lists.specs.Lists.{any, both, either, filter_b, member, pick, range}
 use Rattle.lists.proofs.Distinct.{mem?}
 use Rattle.lists.proofs.Members.{◌∈◌, any_in, any_out, filter_in, filter_out, member_in, member_out, range_out}
-use Rattle.lists.proofs.Ranges.{Written, get_or_map_range, written_all}
+use Rattle.lists.proofs.Ranges.{get_or_map_range}
 use Rattle.lists.proofs.Tests.{T-both, T-either, T_false, T-same, T_true, eq→eqb}
 use Rattle.graph.specs.Graph.{Graph, row_numbers}
 use Rattle.graph.specs.Paths.{Key, follows, place_of, steps}
@@ -117,16 +117,10 @@ flag_at firsts seconds heads limit entries place last r =
     flag_by (get_or heads r 0) (comes_by limit a b (get_or entries a 0) (get_or entries b 0) place last)
 
 module _ (firsts seconds heads : List ℕ) (limit plant : ℕ) (keys : List Key) (entries : List ℕ)
-    (table : (v : ℕ) → v < 256 → get_or entries v 0 ≡ entry_of (entered_by plant keys) v)
-    (first : (r : ℕ) → get_or firsts r 0 < 256) (second : (r : ℕ) → get_or seconds r 0 < 256) where
-  pub flags_are : (place last : ℕ) → place ≡ (last_key no_key keys).place → last ≡ (last_key no_key keys).node → (flags : List ℕ) (r : ℕ) → 256 ≤ r
-      → Written (flag_at firsts seconds heads limit entries place last) 0 256 flags r → flags ≡ flags_of firsts seconds heads limit plant keys
-  unfolding flags_of
-  flags_are place last e d flags r h so = written_all (record {
-    whole = so.whole;
-    within = so.within;
-    holds = λ i j. so.holds i j ∙ (rw (e, d, table (get_or firsts i 0) (first i), table (get_or seconds i 0) (second i)));
-  }) h
+    (table : (v : ℕ) → v < 256 → get_or entries v 0 ≡ entry_of (entered_by plant keys) v) where
+  pub flag_is : (place last : ℕ) → place ≡ (last_key no_key keys).place → last ≡ (last_key no_key keys).node → (r : ℕ) → get_or firsts r 0 < 256 → get_or seconds r 0 < 256
+      → flag_at firsts seconds heads limit entries place last r ≡ flag_by (get_or heads r 0) (comes_at firsts seconds limit plant keys r)
+  flag_is place last e d r first second = rw (e, d, table (get_or firsts r 0) first, table (get_or seconds r 0) second) refl
 
 -- both of two tests, the second of which counts only where the first passes
 both_same : (a b c : Bool) → (T a → b ≡ c) → both a b ≡ both a c

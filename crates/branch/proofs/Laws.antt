@@ -14,15 +14,15 @@ use native.Mathlib.Decide.{dec_lt, ℕ_discrete}
 use native.Mathlib.Nat.{mod-eq_of_lt}
 use native.Mathlib.Numerals.{add-one}
 use native.Mathlib.Omega.{arith}
-use lib.Dec.{eqb, leb, leb→le, le→leb, ltb}
+use lib.Dec.{eqb, leb, leb→le, le→leb, lt→ltb, ltb, ltb→lt}
 use lib.ListN.{drop, drop_of_length-le, get_or, get_or-replicate, length, length-replicate, length-set, replicate, set, take}
 use lib.Seq.{append_snoc, drop-cons, get_or-set_other, get_or-set_same, take_all}
 use borrow.Author.Tests.{eq-eqb, le-ltb, lt-ltb, ne_eqb}
-use Rattle.lists.specs.Lists.{either, filter_b, keep_if, member, range}
+use Rattle.lists.specs.Lists.{both, either, filter_b, keep_if, member, range}
 use Rattle.lists.proofs.Ascending.{get_or_mem}
 use Rattle.lists.proofs.Distinct.{Distinct, filter_distinct}
 use Rattle.lists.proofs.Members.{◌∈◌, ◌⊆◌, drop_out, filter_out, length_snoc, member_in, member_out, range_in, range_out, take_out}
-use Rattle.lists.proofs.Tests.{T_false, T-same}
+use Rattle.lists.proofs.Tests.{T-both, T-same}
 use Rattle.graph.specs.Paths.{Key, place_of}
 use Rattle.graph.proofs.Places.{place_here, place_there}
 use Rattle.bounds.specs.Bounds.{last_key}
@@ -78,13 +78,11 @@ entered_next l entries (suc j) x p e small so =
 
 -- Nodes from 1 on
 
-pub no_node : (v limit : ℕ) → v ≡ 0 → member v (range 1 limit) ≡ false
-no_node v limit e = (T_false (member v (range 1 limit))).0 (λ t. omega (arith, (range_out 1 limit (member_out v (range 1 limit) t)).0))
-
-pub node_below : (v limit : ℕ) → ¬ (v ≡ 0) → leb v limit ≡ member v (range 1 limit)
-node_below v limit n = T-same (leb v limit) (member v (range 1 limit))
-    (λ t. member_in (range_in 1 limit v (omega arith) (omega (arith, leb→le v limit t))))
-    (λ t. le→leb v limit (omega (arith, (range_out 1 limit (member_out v (range 1 limit) t)).1)))
+pub node_is : (v limit : ℕ) → both (ltb 0 v) (leb v limit) ≡ member v (range 1 limit)
+node_is v limit = T-same (both (ltb 0 v) (leb v limit)) (member v (range 1 limit))
+    (λ t. let (low, high) = (T-both (ltb 0 v) (leb v limit)).0 t in member_in (range_in 1 limit v (ltb→lt 0 v low) (omega (arith, leb→le v limit high))))
+    (λ t. let (low, high) = range_out 1 limit (member_out v (range 1 limit) t) in
+    (T-both (ltb 0 v) (leb v limit)).1 (lt→ltb 0 v (omega arith), le→leb v limit (omega arith)))
 
 -- The last step
 

@@ -2,8 +2,10 @@
 -- branch has a wanted path (`opened`).
 use mathlib.Core.Path.{◌∙◌, ◌≡◌, subst, sym}
 use mathlib.Core.Logic.{⊎_elim}
-use mathlib.Core.Bool.{Bool, false, not, true}
-use mathlib.Core.Option.{none, some}
+use mathlib.Core.Bool.{not}
+use mathlib.Core.Option.{some}
+use Rattle.std.specs.Option.{is_some}
+use Rattle.std.specs.Prelude.{None, Option as Maybe, Some}
 use mathlib.Core.List.Memᴰ.{append_cases}
 use mathlib.Core.List.Memᴰ.{append_left}
 use mathlib.Core.List.Memᴰ.{append_right}
@@ -13,7 +15,6 @@ use native.Mathlib.Decide.{dec_lt}
 use native.Mathlib.Omega.{arith}
 use lib.Dec.{T, T_not, not_T, eqb, eqb→eq}
 use lib.ListN.{drop, get_or, length, take, take-append-drop}
-use Rattle.lists.specs.Lists.{pick}
 use Rattle.lists.proofs.Maps.{map_take}
 use Rattle.lists.proofs.Members.{◌∈◌, filter_in, filter_out, take_or_drop}
 use Rattle.lists.proofs.Tests.{eq→eqb}
@@ -32,8 +33,9 @@ use Rattle.completions.proofs.Find.{Answers}
 use Rattle.completions.proofs.Witness.{Question, inc_forest, opens_none, opens_some, us_lie}
 use Rattle.paths.specs.Path.{keys_of, rows_in}
 use Rattle.paths.specs.declared.Path.{Path}
-use Rattle.chosen.specs.Chosen.{rows_on}
-use Rattle.find.specs.Find.{Node, graph_in}
+use Rattle.chosen.specs.Chosen.{rows_of, rows_on}
+use Rattle.chosen.specs.declared.Chosen.{Chosen}
+use Rattle.find.specs.Find.{Node, found_of, graph_in}
 use Rattle.branch.specs.Branch.{Asked, Tells, flags_of, standing_of}
 use Rattle.branch.proofs.Comes.{flags_usable}
 use Rattle.branch.proofs.Laws.{standing_once, standing_within}
@@ -111,7 +113,6 @@ module _ {firsts seconds heads : List ℕ} {limit k : ℕ} {limits : List ℕ} {
     }
 
     -- OPENED
-    pub opened : (w : Network) (b : Bool) (t : List ℕ) → Answers g w (take k limits) inc us (pick b (some t) none)
-        → Tells g w musts (take k limits) (take len (rows_in path)) b
-    opened w true t a = (λ e. opens_some g formed musts (rows_in path) len inc us question w (take k limits) t a, λ e. absurd (subst T e tt))
-    opened w false t a = (λ e. absurd (subst T (sym e) tt), λ e. opens_none g formed musts (rows_in path) len inc us question w (take k limits) a)
+    pub opened : (w : Network) (tree : Maybe Chosen) → Answers g w (take k limits) inc us (found_of tree) → Tells g w musts (take k limits) (take len (rows_in path)) (is_some tree)
+    opened w (Some rows) a = (λ e. opens_some g formed musts (rows_in path) len inc us question w (take k limits) (rows_of rows) a, λ e. cc)
+    opened w None a = (λ e. cc, λ e. opens_none g formed musts (rows_in path) len inc us question w (take k limits) a)

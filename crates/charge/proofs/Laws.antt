@@ -1,5 +1,5 @@
--- Laws of the connection charge: the test of a criterion (`added_within`, `added_past`, `added_known`), a charge more in the buffer (`charges_next`), and
--- the call's end by the number of `drawn`, the buffer's length and the criterion.
+-- Laws of the connection charge: the test of a criterion (`added_known`), a charge more in the buffer (`charges_next`), and
+-- the call's end by the answer of `drawn`, the buffer's length and the criterion.
 use mathlib.Core.Path.{◌∙◌, ◌≡◌, ap, refl, sym}
 use mathlib.Core.Bool.{Bool, false, true}
 use mathlib.Core.Option.{none, some}
@@ -8,9 +8,9 @@ use Prim.Native.Nat.{◌+◌, ◌-◌, ◌/◌, ◌<◌, ◌≤◌, ℕ}
 use native.Mathlib.Decide.{dec_lt}
 use native.Mathlib.Nat.{div-le_self}
 use native.Mathlib.Omega.{arith}
-use lib.Dec.{eqb, leb, ltb}
+use lib.Dec.{eqb, leb}
 use lib.ListN.{length, set, take}
-use borrow.Author.Tests.{le-leb, le-ltb, lt-leb, lt-ltb}
+use borrow.Author.Tests.{le-ltb, lt-ltb}
 use Rattle.lists.specs.Lists.{pick}
 use Rattle.lists.proofs.Ascending.{at_past}
 use Rattle.checks.specs.Checks.{answered, first_unmet, refused}
@@ -27,20 +27,13 @@ use Rattle.charges.specs.Charges.{Charge, added_at, borne_by, charge_call, charg
 use Rattle.charges.proofs.Charges.{charge_at, charges_length}
 use Rattle.vector.proofs.Vectors.{rows_few}
 use Rattle.paths.specs.Path.{rows_in}
+use Rattle.paths.specs.declared.Path.{Path}
 use Rattle.drawn.specs.Answers.{drawn_call}
 use Rattle.drawn.proofs.Answers.{Passed, answered_by, call_met, call_refused, call_short, call_stops}
-use Rattle.tried.specs.Answers.{drawn_of}
-use Rattle.tried.specs.declared.DrawnAnswer.{DrawnAnswer}
+use Rattle.tried.specs.Answers.{steps_in}
 use Rattle.charge.specs.Answers.{added_byte}
 
 -- The criterion
-
-module _ (f : List ℕ) (c : ℕ) {s : Sizes} (sizes : s ≡ sizes_of f) where
-  pub added_within : {b : ℕ} → c < s.k → b ≡ byte_at f (9 + c) → eqb b 0 ≡ added_byte f c
-  added_within h e = simp (lt-ltb c (sizes_of f).k (rw sizes at h), e)
-
-  pub added_past : s.k ≤ c → ltb c s.k ≡ added_byte f c
-  added_past h = simp (le-ltb c s.k h, le-ltb c (sizes_of f).k (rw sizes at h))
 
 -- of an accepted file the byte says the network's kind
 added_known : (f : List ℕ) → Accepted f → (c : ℕ) → added_byte f c ≡ added_at (network_of f) c
@@ -68,39 +61,43 @@ charges_next c nodes buffer i node x h room is e =
     ap (set (over (take i (charges_by c nodes)) buffer) i) (e ∙ ap (borne_by c) is ∙ sym (charge_at c nodes i h))
     ∙ over_next (charges_by c nodes) buffer i (omega (arith, charges_length c nodes)) room
 
--- Once `drawn` has answered d
-
-module _ (f rows : List ℕ) (d : DrawnAnswer) (asked : drawn_of d ≡ drawn_call f rows) where
-  pub charge_refused : (criterion : ℕ) (buffer : List ℕ) → ¬ (d.number ≡ 0)
-      → record { outcome = refused d.number; buffers = buffer } ≡ charge_call f rows criterion buffer
+module _ (f rows : List ℕ) (criterion : ℕ) (buffer : List ℕ) where
+  pub charge_refused : (e : ℕ) → refused e ≡ drawn_call f rows → record { outcome = refused e; buffers = buffer } ≡ charge_call f rows criterion buffer
   unfolding charge_call charge_checks
-  charge_refused criterion buffer n = sym (call_refused f rows d asked _ _ _ buffer _ n)
+  charge_refused e told = sym (call_refused f rows _ _ _ buffer _ e told)
+
+-- Once `drawn` has answered with the path p
+
+module _ (f rows : List ℕ) (p : Path) (told : answered (steps_in p) ≡ drawn_call f rows) where
+  abbrev path : List ℕ
+  path = rows_in p
+
+  passed : Passed f rows path
+  passed = answered_by f rows p told
+
+  -- no total is above 31,000,000
+  pub total_small : (criterion : ℕ) {total : ℕ} → total ≡ added_cost (network_of f) criterion path → total ≤ 31000000
+  total_small criterion e = omega (arith, e, rows_few p, added_most (network_of f) 1000000 passed.file.costs criterion path)
 
   -- and the file's sizes are read
-  module _ (z : d.number ≡ 0) {s : Sizes} (sizes : s ≡ sizes_of f) where
-    abbrev path : List ℕ
-    path = rows_in d.path
-
-    passed : Passed f rows path
-    passed = answered_by f rows d asked z
-
+  module _ {s : Sizes} (sizes : s ≡ sizes_of f) where
     pub nodes_low : 2 ≤ s.n
     nodes_low = omega (arith, ap (λ (s : Sizes). s.n) sizes, passed.file.nodes_low)
 
     module _ (criterion : ℕ) (buffer : List ℕ) where
-      pub charge_short : length buffer < s.n - 1 → record { outcome = refused 11; buffers = buffer } ≡ charge_call f rows criterion buffer
+      pub charge_short : leb (s.n - 1) (length buffer) ≡ false → record { outcome = refused 11; buffers = buffer } ≡ charge_call f rows criterion buffer
       unfolding charge_call charge_checks
-      charge_short h = sym (call_short f rows d asked _ _ _ buffer _ z (lt-leb _ _ (rw sizes at h)))
+      charge_short e = sym (call_short f rows _ _ _ buffer _ p told (rw sizes at e))
 
       -- with room the criterion decides
-      module _ (room : s.n - 1 ≤ length buffer) where
+      module _ (room : leb (s.n - 1) (length buffer) ≡ true) where
         fits : leb (charged_nodes f) (length buffer) ≡ true
-        fits = le-leb _ _ (rw sizes at room)
+        fits = rw sizes at room
 
         pub charge_strange : added_byte f criterion ≡ false → record { outcome = refused 22; buffers = buffer } ≡ charge_call f rows criterion buffer
         unfolding charge_call charge_checks
         charge_strange e =
-            sym (call_stops f rows d asked _ _ _ buffer _ z fits 22
+            sym (call_stops f rows _ _ _ buffer _ p told fits 22
             (first_unmet_unmet (check 22 (added_at (network_of f) criterion)) [] (sym (added_known f passed.file criterion) ∙ e)))
 
         -- the total is over the path's rows
@@ -111,13 +108,8 @@ module _ (f rows : List ℕ) (d : DrawnAnswer) (asked : drawn_of d ≡ drawn_cal
         charge_split {total} read e =
             let same : total ≡ added_cost (network_of f) criterion rows = read ∙ path_cost f passed.file rows path passed.tree passed.path added criterion in
             rw (sizes, same)
-            (sym (call_met f rows d asked _ _ _ buffer _ z fits
+            (sym (call_met f rows _ _ _ buffer _ p told fits
             (first_unmet_met (check 22 (added_at (network_of f) criterion)) [] (sym (added_known f passed.file criterion) ∙ e))))
-
-  -- no total is above 31,000,000
-  pub total_small : d.number ≡ 0 → (criterion : ℕ) {total : ℕ} → total ≡ added_cost (network_of f) criterion (rows_in d.path) → total ≤ 31000000
-  total_small z criterion e =
-      omega (arith, e, rows_few d.path, added_most (network_of f) 1000000 (answered_by f rows d asked z).file.costs criterion (rows_in d.path))
 
 -- and one more than a quotient of it fits 32 bits
 pub quotient_small : (total nodes : ℕ) → total ≤ 31000000 → total / nodes < 4294967295

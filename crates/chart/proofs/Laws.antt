@@ -1,5 +1,4 @@
--- What the code reads is what specs/Chart.antt says of the words: neighbours (`near_any`, `near_must`), a row's word (`word_here`, `word_past`), its ends (`first_at`,
--- `second_at`) and the row itself (`row_here`).
+-- What the code reads is what specs/Chart.antt says of the words: neighbours (`near_at`), a row's word (`word_here`, `word_past`), its ends (`ends_at`) and the row itself (`row_here`).
 use mathlib.Core.Path.{◌∙◌, ◌≡◌, ap, refl, sym}
 use mathlib.Core.Bool.{Bool, false, true}
 use mathlib.Core.List.{List}
@@ -7,19 +6,15 @@ use Prim.Native.Nat.{◌+◌, ◌<◌, ◌≤◌, ℕ}
 use native.Mathlib.Omega.{arith}
 use lib.ListN.{get_or-eq_default, get_or-map, get_or, length, length-map}
 use lib.Seq.{get_or-drop}
-use Rattle.lists.specs.Lists.{range}
+use Rattle.lists.specs.Lists.{pick, range}
 use Rattle.lists.proofs.Ranges.{get_or_map_range, range_length}
 use Rattle.costs.specs.Network.{no_row}
 use Rattle.chart.specs.Chart.{count_in, end_by, first_part, firsts_in, near_in, row_by, rows_in, second_part, seconds_in, words_in}
 
 module _ (c : List ℕ) where
-  pub near_any : (u : ℕ) → get_or c (5 + u) 0 ≡ get_or (near_in false c) u 0
+  pub near_at : (must : Bool) (u : ℕ) → get_or c (pick must 38 5 + u) 0 ≡ get_or (near_in must c) u 0
   unfolding near_in
-  near_any u = sym (get_or-drop 5 c u 0)
-
-  pub near_must : (u : ℕ) → get_or c (38 + u) 0 ≡ get_or (near_in true c) u 0
-  unfolding near_in
-  near_must u = sym (get_or-drop 38 c u 0)
+  near_at must u = sym (get_or-drop (pick must 38 5) c u 0)
 
   pub words_length : length (words_in c) ≡ count_in c
   unfolding words_in
@@ -46,6 +41,11 @@ module _ (c : List ℕ) where
     pub second_at : (must : Bool) → end_by must (get_or (words_in c) r 0) (second_part (get_or (words_in c) r 0)) ≡ get_or (seconds_in must c) r 0
     unfolding seconds_in
     second_at must = sym (ap (get_or (seconds_in must c) r) (sym (end_none must)) ∙ get_or-map (λ w. end_by must w (second_part w)) (words_in c) r 0)
+
+    -- the ends by a row's word, of which g answers what is kept
+    pub ends_at : (must : Bool) (w : ℕ) (g : ℕ → ℕ) → w ≡ get_or (words_in c) r 0 → ((end : ℕ) → g end ≡ end_by must w end)
+        → (g (first_part w) ≡ get_or (firsts_in must c) r 0) × (g (second_part w) ≡ get_or (seconds_in must c) r 0)
+    ends_at must w g e kept = (kept (first_part w) ∙ rw e (first_at must), kept (second_part w) ∙ rw e (second_at must))
 
     pub row_here : row_by (get_or (words_in c) r 0) ≡ get_or (rows_in c) r no_row
     unfolding rows_in

@@ -26,7 +26,7 @@ use Rattle.chart.specs.Chart.{Blank, begun_by, count_in, entered_by, entered_dow
 use Rattle.chart.specs.Chart.{near_in, next_in, nodes_in, pair_at, plant_in, row_by, rows_in, seconds_in, width_in, words_in}
 use Rattle.chart.proofs.Charts.{Charted, Charts, NextRow, must_graph_in}
 use Rattle.chart.proofs.Entered.{Nodal, Stated, Worded, bare, entered, entered_row}
-use Rattle.chart.proofs.Laws.{first_at, near_any, near_must, row_here, rows_length, second_at, word_here, words_length}
+use Rattle.chart.proofs.Laws.{first_at, near_at, row_here, rows_length, second_at, word_here, words_length}
 use Rattle.chart.proofs.Right.{Right, right_more}
 
 -- a chart can be made of these rows, with `nodes` some of 1 to `limit`, the plant among them
@@ -261,7 +261,7 @@ module _ {rows : List Row} {limit plant nodes width : ℕ} (able : Chartable row
     formed = formed;
     low = λ v i. (able.members v (node_out v i)).1;
     small = omega (arith, able.limit_high);
-    joined = λ u v i j. let (f, t) = right.near u v (nodal u i) (nodal v j) in rw (← near_any chart u) (
+    joined = λ u v i j. let (f, t) = right.near u v (nodal u i) (nodal v j) in rw (← near_at chart false u) (
       λ s. let (r, l, k, j) = f s in (r, k, j),
       λ (r, k, j). t (r, omega arith, k, j),
     );
@@ -272,14 +272,14 @@ module _ {rows : List Row} {limit plant nodes width : ℕ} (able : Chartable row
     formed = record { once = formed.once; plant = formed.plant; no_zero = formed.no_zero };
     low = any_charted.low;
     small = any_charted.small;
-    joined = λ u v i j. let (f, t) = right.must_near u v (nodal u i) (nodal v j) in rw (← near_must chart u) (
+    joined = λ u v i j. let (f, t) = right.must_near u v (nodal u i) (nodal v j) in rw (← near_at chart true u) (
       λ s. let (r, l, k, j) = f s in (r, k, j),
       λ (r, k, j). t (r, omega arith, k, j),
     );
   }
 
   must_ends : (u v r : ℕ) → v ∈ h.nodes → r < length h.first_ends → Joins h r u v → T (has (get_or (near_in true chart) 0 0) v)
-  must_ends u v r i k j = rw (← near_must chart 0) (right.must_ends u v r (nodal v i) (omega arith) k j)
+  must_ends u v r i k j = rw (← near_at chart true 0) (right.must_ends u v r (nodal v i) (omega arith) k j)
 
   headed : (u v r : ℕ) → u ∈ g.nodes → v ∈ g.nodes → r < head_in chart u v → ¬ Joins g r u v
   unfolding head_in

@@ -1,4 +1,4 @@
--- Flags of rows: which rows have one set (`on_mem`), each once (`on_distinct`), gathered row by row (`on_skip`, `on_next`, `on_end`), and what a flag that is cleared
+-- Flags of rows: which rows have one set (`on_mem`, `on_member`), each once (`on_distinct`), gathered row by row (`on_skip`, `on_next`, `on_end`), and what a flag that is cleared
 -- leaves (`on_clear`, `on_fewer`). Assumes nothing.
 use mathlib.Core.Path.{◌∙◌, ◌≡◌, ap, refl, subst, sym}
 use mathlib.Core.Logic.{◌↔◌}
@@ -10,9 +10,10 @@ use lib.Dec.{ltb→lt, lt→ltb}
 use lib.ListN.{get_or, length, set}
 use lib.Seq.{get_or-set_other, get_or-set_same}
 use borrow.Author.Tests.{le-ltb, lt-ltb}
-use Rattle.lists.specs.Lists.{filter_b, range}
+use Rattle.lists.specs.Lists.{filter_b, member, range}
 use Rattle.lists.proofs.Distinct.{Distinct, filter_distinct, pigeonhole_one, range_distinct}
-use Rattle.lists.proofs.Members.{◌∈◌, filter_in, filter_out, range_in, range_out}
+use Rattle.lists.proofs.Members.{◌∈◌, filter_in, filter_out, member_in, member_out, range_in, range_out}
+use Rattle.lists.proofs.Tests.{T-same}
 use Rattle.chosen.specs.Chosen.{is_on, rows_on}
 
 -- which rows they are
@@ -22,6 +23,11 @@ on_mem flags r = (
   λ m. let (i, t) = filter_out (is_on flags) (range 0 256) m in ((range_out 0 256 i).1, ltb→lt 0 (get_or flags r 0) t),
   λ h. filter_in (is_on flags) (range_in 0 256 r (omega arith) h.0) (lt→ltb 0 (get_or flags r 0) h.1),
 )
+
+pub on_member : (flags : List ℕ) (r : ℕ) → r < 256 → member r (rows_on flags) ≡ is_on flags r
+on_member flags r h = T-same (member r (rows_on flags)) (is_on flags r)
+    (λ t. lt→ltb 0 (get_or flags r 0) ((on_mem flags r).0 (member_out r (rows_on flags) t)).1)
+    (λ t. member_in ((on_mem flags r).1 (h, ltb→lt 0 (get_or flags r 0) t)))
 
 pub on_distinct : (flags : List ℕ) → Distinct (rows_on flags)
 unfolding rows_on

@@ -15,17 +15,16 @@ cut_twice n l m = elim (dec_lt (length l) n) [
   | no h ↦ take-append-le n (take n l) m (simp length-take (omega arith)) ∙ take-take n n l (omega arith) ∙ sym (take-append-le n l m (omega arith))
 ]
 
-module _ (rows : List ℕ) (n : ℕ) (full : length rows ≡ 31) where
-  -- one row more, behind the others
-  pub extended_is : (at row : ℕ) → at ≡ length (take n rows) → at < 31 → take (at + 1) (set rows at row) ≡ take 31 (take n rows ++ (row ∷ []))
-  extended_is at row e h =
-      let same : at ≡ n = omega (arith, e, length-take n rows) in
-      rw (add-one at) (take-suc-set rows at row (omega arith)) ∙ ap (λ (k : ℕ). take k rows ++ (row ∷ [])) same
-      ∙ sym (take_all 31 (take n rows ++ (row ∷ [])) (omega (arith, length-append (take n rows) (row ∷ []), e)))
+-- one row more, behind the first n of 31
+module _ (rows : List ℕ) (n row : ℕ) (full : length rows ≡ 31) where
+  pub extended_is : n < 31 → take (n + 1) (set rows n row) ≡ take 31 (take n rows ++ (row ∷ []))
+  extended_is h =
+      rw (add-one n) (take-suc-set rows n row (omega arith))
+      ∙ sym (take_all 31 (take n rows ++ (row ∷ [])) (omega (arith, length-append (take n rows) (row ∷ []), length-take n rows)))
 
-  pub full_is : (row : ℕ) → 31 ≤ length (take n rows) → take n rows ≡ take 31 (take n rows ++ (row ∷ []))
-  full_is row h =
-      sym (take-append-le 31 (take n rows) (row ∷ []) h ∙ take_all 31 (take n rows) (omega (arith, length-take n rows)))
+  pub full_is : 31 ≤ n → take n rows ≡ take 31 (take n rows ++ (row ∷ []))
+  full_is h =
+      sym (take-append-le 31 (take n rows) (row ∷ []) (simp length-take (omega arith)) ∙ take_all 31 (take n rows) (simp length-take (omega arith)))
 
 -- one row more of those that are to follow, at the code's i + 1
 pub joined_next : (l m : List ℕ) (i : ℕ) → i < length m → take 31 (take 31 (l ++ take i m) ++ (get_or m i 0 ∷ [])) ≡ take 31 (l ++ take (i + 1) m)

@@ -1,46 +1,34 @@
--- One street by the steps in it (`street_turn`); and the closing cost counted from the last step backwards (`closing_turn`): a named street is counted at the last of its rows.
+-- What a street costs, as the library's fold takes it (`street_folded`); and the closing cost counted row by row (`closing_more`): a named street is counted at the last of its rows.
 use mathlib.Core.Path.{◌∙◌, ◌≡◌, ap, refl, sym}
 use mathlib.Core.Logic.{⊎_elim}
 use mathlib.Core.Bool.{Bool, false, true}
 use mathlib.Core.List.{List, [], ◌∷◌, map}
-use Prim.Native.Nat.{◌*◌, ◌+◌, ◌-◌, ◌<◌, ◌≤◌, max, suc, zero, ℕ}
+use Prim.Native.Nat.{◌*◌, ◌+◌, ◌<◌, ◌≤◌, max, suc, ℕ}
 use native.Mathlib.Decide.{ℕ_discrete}
+use native.Mathlib.Numerals.{add-one}
 use native.Mathlib.Omega.{arith}
 use lib.Dec.{eqb, eqb→eq}
-use lib.ListN.{drop, length}
+use lib.ListN.{drop, drop_of_length-le, get_or, length}
+use lib.Seq.{drop-cons}
 use mir.Syntax.{w8}
 use mir.Val.{Fits}
 use borrow.Author.Tests.{eq-eqb, ne_eqb}
 use Rattle.lists.specs.Lists.{any, either, filter_b, largest, member, pick, sum}
+use Rattle.std.specs.List.{between, filter, fold, list_any}
+use Rattle.std.proofs.lemmas.Slice.{between_to_end}
+use Rattle.lists.proofs.Library.{any_is, filter_is, largest_is}
 use Rattle.lists.proofs.Tests.{T-either, T_true, pick_elim}
 use Rattle.costs.specs.Costs.{closing_cost, cost_at, in_street, street_cost, streets_of}
 use Rattle.costs.specs.Network.{Network, closing, row_at}
 use Rattle.bounds.proofs.Limits.{by_kind}
 use Rattle.network_file.specs.File.{byte_at, network_of}
-use Rattle.steps.specs.Steps.{Counted, step_row}
-use Rattle.steps.proofs.Laws.{cost_word, next, past}
-use Rattle.closing.specs.Closing.{closing_at, closing_step, lies_in}
+use Rattle.steps.proofs.Laws.{cost_word}
+use Rattle.closing.specs.Closing.{closing_step, lies_in}
 
--- One street, in a loop that has come to step i with `so`, the largest so far; x is the cost of the row at step i, `now` what comes next
+-- One street
 
-pub record StreetTo (g : Network) (c s : ℕ) (rows : List ℕ) (i so : ℕ) : Type 0 where
-  pub comes : street_cost g c rows s ≡ max so (street_cost g c (drop i rows) s)
-
-module _ {g : Network} {c : ℕ} {rows : List ℕ} {n i so : ℕ} (counted : Counted rows n) {s : ℕ} where
-  pub street_turn : {x now : ℕ} → i < n → StreetTo g c s rows i so → (row_at g (step_row rows i)).street ≡ s → x ≡ cost_at g c (step_row rows i)
-      → now ≡ max so x → StreetTo g c s rows (i + 1) now
-  unfolding largest filter_b
-  street_turn h inv on e larger =
-      record { comes = omega (arith, rw (eq-eqb _ _ on) at (ap (λ (l : List ℕ). street_cost g c l s) (next counted i h))) }
-
-  pub street_skip : i < n → StreetTo g c s rows i so → ((row_at g (step_row rows i)).street ≡ s → ⊥) → StreetTo g c s rows (i + 1) so
-  unfolding filter_b
-  street_skip h inv off =
-      record { comes = omega (arith, rw (ne_eqb _ _ off) at (ap (λ (l : List ℕ). street_cost g c l s) (next counted i h))) }
-
-  pub street_end : n ≤ i → StreetTo g c s rows i so → so ≡ street_cost g c rows s
-  unfolding largest filter_b
-  street_end h inv = omega (arith, ap (λ (l : List ℕ). street_cost g c l s) (past counted i h))
+pub street_folded : (g : Network) (c s : ℕ) (rows : List ℕ) → fold (λ most r. max most (cost_at g c r)) 0 (filter (lies_in g s) rows) ≡ street_cost g c rows s
+street_folded g c s rows = sym (ap (λ l. largest (map (cost_at g c) l)) (filter_is (lies_in g s) rows) ∙ largest_is (cost_at g c) (filter (lies_in g s) rows))
 
 -- All streets
 
@@ -81,55 +69,21 @@ module _ (g : Network) (c : ℕ) (rows : List ℕ) where
         (one_more (street_cost g c rows) (row_at g r).street (streets_of g last) (sum (map (cost_at g c) (in_street g 0 last))) (any (lies_in g (row_at g r).street) last))
   ]
 
-  closing_part : (i : ℕ) (last : List ℕ) → closing_from g c rows (drop i last) ≤ closing_from g c rows last
-  closing_part zero last = omega arith
-  closing_part (suc i) [] = omega arith
-  closing_part (suc i) (r ∷ last) = omega (arith, closing_part i last, closing_cons r last)
+  -- what is left to add in a loop that has come to row i
+  pub closing_more : (i : ℕ) → i < length rows
+      → closing_from g c rows (drop i rows) ≡ closing_step g c rows (get_or rows i 0) (between (i + 1) (length rows) rows) + closing_from g c rows (drop (i + 1) rows)
+  closing_more i h = rw (between_to_end rows (i + 1) (length rows) (omega arith), drop-cons rows i 0 h, add-one) (closing_cons (get_or rows i 0) (drop (suc i) rows))
 
--- What step i adds, whose row is in street s: the three cases of `closing_step`
-
-module _ (g : Network) (c : ℕ) (rows : List ℕ) (i : ℕ) {s : ℕ} (street : s ≡ (row_at g (step_row rows i)).street) where
-  pub closing_off : {x : ℕ} → s ≡ 0 → x ≡ cost_at g c (step_row rows i) → x ≡ closing_at g c rows i
-  unfolding closing_at closing_step
-  closing_off off cost = rw (← street, eq-eqb s 0 off) cost
-
-  module _ (named : s ≡ 0 → ⊥) where
-    pub closing_later : any (lies_in g s) (drop (i + 1) rows) ≡ true → 0 ≡ closing_at g c rows i
-    unfolding closing_at closing_step
-    closing_later behind = rw (← street, ne_eqb s 0 named, behind)
-
-    pub closing_last : {x : ℕ} → any (lies_in g s) (drop (i + 1) rows) ≡ false → x ≡ street_cost g c rows s → x ≡ closing_at g c rows i
-    unfolding closing_at closing_step
-    closing_last behind cost = rw (← street, ne_eqb s 0 named, behind) cost
-
--- The loop has come back to step i with the sum so far; x is what step i - 1 adds
-
-pub record ClosingTo (g : Network) (c : ℕ) (rows : List ℕ) (i so : ℕ) : Type 0 where
-  pub within : i ≤ length rows
-  pub comes : so ≡ closing_from g c rows (drop i rows)
-
-module _ {g : Network} {c : ℕ} {rows : List ℕ} where
-  pub closing_start : {n : ℕ} → Counted rows n → ClosingTo g c rows n 0
+  pub closing_none : (i : ℕ) → length rows ≤ i → closing_from g c rows (drop i rows) ≡ 0
   unfolding closing_from streets_of filter_b sum
-  closing_start {n} counted =
-      record { within = omega arith; comes = sym (ap (closing_from g c rows) (past counted n (omega arith))) }
+  closing_none i h = rw (drop_of_length-le rows h)
 
-  pub closing_turn : {n i so x : ℕ} → Counted rows n → 0 < i → ClosingTo g c rows i so → x ≡ closing_at g c rows (i - 1) → ClosingTo g c rows (i - 1) (so + x)
-  unfolding closing_at
-  closing_turn {n} {i} {so} {x} counted h inv e =
-      let back : i - 1 + 1 ≡ i = omega arith in
-      let step = ap (closing_from g c rows) (next counted (i - 1) (omega arith)) ∙ closing_cons g c rows (step_row rows (i - 1)) (drop (i - 1 + 1) rows) in
-      let same = ap (λ (k : ℕ). closing_from g c rows (drop k rows)) back in
-      record { within = omega arith; comes = omega arith }
+-- no sum is too large, with the bytes of the file f
+pub closing_fits : (f : List ℕ) → ((i : ℕ) → Fits w8 (byte_at f i)) → (c : ℕ) (rows : List ℕ) → length rows ≤ 31 → closing_cost (network_of f) c rows ≤ 31 * 4294967295
+closing_fits f bytes c rows few = omega (arith, by_kind (network_of f) 4294967295 (cost_word f bytes) closing c rows)
 
-  pub closing_end : {i so : ℕ} → i ≤ 0 → ClosingTo g c rows i so → so ≡ closing_cost g c rows
-  unfolding closing_from
-  closing_end {i} {so} h inv =
-      let first : i ≡ 0 = omega arith in inv.comes ∙ ap (λ (k : ℕ). closing_from g c rows (drop k rows)) first
-
--- No sum is too large, with the bytes of the file f
-pub closing_fits : (f : List ℕ) → ((i : ℕ) → Fits w8 (byte_at f i)) → {c : ℕ} {rows : List ℕ} {n i so : ℕ} → Counted rows n
-    → ClosingTo (network_of f) c rows i so → so ≤ 31 * 4294967295
-unfolding closing_from
-closing_fits f bytes {c} {rows} {n} {i} counted inv =
-    omega (arith, closing_part (network_of f) c rows i rows, by_kind (network_of f) 4294967295 (cost_word f bytes) closing c rows)
+-- What a row adds that is the last of its street s
+pub step_last : (g : Network) (c : ℕ) (rows : List ℕ) (r : ℕ) (behind : List ℕ) {s : ℕ} → s ≡ (row_at g r).street → (s ≡ 0 → ⊥) → list_any (lies_in g s) behind ≡ false
+    → {x : ℕ} → x ≡ street_cost g c rows s → x ≡ closing_step g c rows r behind
+unfolding closing_step
+step_last g c rows r behind {s} street named last cost = rw (← street, ne_eqb s 0 named, any_is, last) cost

@@ -1,6 +1,5 @@
 -- Rows of k places each in a table, read one after the other: what is left of a search at row i.
 use mathlib.Core.Path.{◌≡◌}
-use mathlib.Core.Bool.{Bool, false, true}
 use mathlib.Core.List.{List, [], ◌∷◌}
 use Prim.Native.Nat.{◌*◌, ◌+◌, ◌-◌, ◌<◌, ◌≤◌, suc, ℕ}
 use native.Mathlib.Nat.{add-sub_cancel_left, mul-le-mul_right, sub-zero, suc-mul, zero-mul}
@@ -8,7 +7,6 @@ use native.Mathlib.Numerals.{add-one}
 use native.Mathlib.Omega.{arith}
 use lib.ListN.{drop, take}
 use lib.Seq.{drop-drop}
-use Rattle.lists.specs.Lists.{any}
 use Rattle.pages.specs.Pages.{pieces}
 
 -- row i of n rows ends within the table
@@ -39,16 +37,3 @@ module _ (k : ℕ) (t : List ℕ) (count : ℕ) where
   rest_end i h =
       let e : count - i ≡ 0 = omega arith in
       rw e
-
-  module _ (p : List ℕ → Bool) (i : ℕ) where
-    pub any_yes : i < count → p (row_at k t i) ≡ true → any p (rest i) ≡ true
-    unfolding any
-    any_yes h e = rw (rest_more i h, e)
-
-    pub any_more : i < count → p (row_at k t i) ≡ false → any p (rest i) ≡ any p (rest (i + 1))
-    unfolding any
-    any_more h e = rw (rest_more i h, e)
-
-    pub any_end : count ≤ i → any p (rest i) ≡ false
-    unfolding any
-    any_end h = rw (rest_end i h)

@@ -1,8 +1,8 @@
--- What each case of the code's answer says in document 01's terms.
-use Rattle.checks.specs.Checks.{Outcome, answered, refused}
-use Rattle.cost.specs.declared.Costed.{Costed}
-use Rattle.cost.specs.declared.Costed.TheVariants as costed
+-- What the code's answer says in document 01's terms.
+use Rattle.std.specs.Prelude.{Result}
+use Rattle.checks.specs.Checks.{Outcome}
+use Rattle.refusals.specs.Refusals.{outcome_of}
+use Rattle.refusals.specs.declared.Refusal.{Refusal}
 
-abbrev pub costed_of : Costed → Outcome (Unit {0})
-costed_of costed.Vector = answered tt
-costed_of (costed.Refused e) = refused e
+abbrev pub costed_of : Result (Unit {0}) Refusal → Outcome (Unit {0})
+costed_of = outcome_of (λ done. done)

@@ -5,29 +5,18 @@ ghost use Rattle.std.specs.Prelude.{◌≡◌};
 ghost use Rattle.operations.specs.Operations.{cost_call};
 ghost use Rattle.cost.specs.Answers.{costed_of};
 
-/// The answer of Cost: the vector stands in the buffer.
-#[derive(Clone, Copy)]
-pub enum Costed {
-    Vector,
-    Refused(u8),
-}
+use refusals::{Refusal, check};
 
 /// Cost: the cost vector of the drawn rows in the first k places of the buffer.
-pub fn cost(file: &[u8], rows: &[u16], buffer: &mut [u32]) -> Costed
+pub fn cost(file: &[u8], rows: &[u16], buffer: &mut [u32]) -> Result<(), Refusal>
     ensures { record { outcome = costed_of result; buffers = buffer.new } ≡ cost_call file.now rows.now buffer.old }
 {
-    let drawn = drawn::drawn(file, rows);
-    let number = drawn.number;
-    if number != 0 {
-        return Costed::Refused(number);
-    }
+    let path = drawn::drawn(file, rows)?;
     let header = fields::header_of(file);
     let k = header.k as usize;
-    if buffer.len() < k {
-        return Costed::Refused(11);
-    }
-    let costs = vector::vector(file, drawn.path);
+    check(k <= buffer.len(), Refusal::ShortBuffer)?;
+    let costs = vector::vector(file, path);
     let vector = &costs[..k];
-    copies::copy_costs(buffer, 0, vector, vector.len());
-    Costed::Vector
+    buffer[..k].copy_from_slice(vector);
+    Ok(())
 }

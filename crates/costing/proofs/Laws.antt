@@ -5,7 +5,7 @@ use mathlib.Core.Path.{◌∙◌, ◌≡◌, ap, ap₂, refl, subst, sym}
 use mathlib.Core.Logic.{◌↔◌}
 use mathlib.Core.Bool.{Bool, false, not, true}
 use mathlib.Core.Option.{none-ne-some, some-injective, none, some}
-use mathlib.Core.List.{List, map}
+use mathlib.Core.List.{List, [], ◌∷◌, map}
 use Prim.Native.Nat.{◌%◌, ◌*◌, ◌+◌, ◌/◌, ◌<◌, ◌≤◌, suc, zero, ℕ}
 use native.Mathlib.Decide.{dec_lt}
 use native.Mathlib.Omega.{arith}
@@ -41,11 +41,13 @@ use Rattle.operations.proofs.Files.{formed, node_count_lem, open_formed_in}
 use Rattle.completions.specs.Boxes.{inside}
 use Rattle.chosen.specs.Chosen.{is_on, rows_on}
 use Rattle.chosen.proofs.Flags.{on_mem}
+use Rattle.fields.specs.declared.Kind.TheVariants.{Added, Closing, Worst}
+use Rattle.tally.specs.Kinds.{number_of, numbers_of}
 use Rattle.tally.specs.Tally.{cost_in, kind_of, lead_in}
 use Rattle.tally.proofs.Same.{Tabled}
 use Rattle.tally.proofs.Tables.{inside_take}
 use Rattle.find.specs.Find.{Tables, graph_in}
-use Rattle.costing.specs.Costing.{costs_in, free_flag, free_in, is_node, kinds_in, lead_at, leads_in, musts_in, street_in, tops}
+use Rattle.costing.specs.Costing.{costs_in, free_flag, free_in, is_node, kind_by, kinds_in, lead_at, leads_in, musts_in, street_in, tops}
 use Rattle.costing.proofs.Streets.{lead_own, lead_same, lead_street}
 
 -- The tables of the network
@@ -60,6 +62,20 @@ kind_known b kind e = by (eqb b 0) (eqb b 1) (eqb b 2) e
     by false true z e = some-injective _ _ e
     by false false true e = some-injective _ _ e
     by false false false e = absurd (none-ne-some _ e)
+
+-- a byte names the same kind as the number of the kind that the code takes it for
+kind_same : (b : ℕ) → kind_of (number_of (kind_by b)) ≡ kind_of b
+kind_same b = by (eqb b 0) (eqb b 1)
+  where
+    by : (x y : Bool) → kind_of (number_of (pick x Added (pick y Worst Closing))) ≡ pick x added (pick y worst closing)
+    by true y = refl
+    by false true = refl
+    by false false = refl
+
+kinds_same : (k : ℕ) (l : List ℕ) → map kind_of (take k (numbers_of (map kind_by l))) ≡ map kind_of (take k l)
+kinds_same zero l = refl
+kinds_same (suc k) [] = refl
+kinds_same (suc k) (b ∷ l) = rw (kind_same b, kinds_same k l) refl
 
 module _ (f : List ℕ) where
   kinds_at : (c : ℕ) → c < 4 → get_or (kinds_in f) c 0 ≡ byte_at f (9 + c)
@@ -98,9 +114,9 @@ module _ (f : List ℕ) (a : Accepted f) where
       ∙ kind_known _ _ (sym (a.named c low) ∙ at_get_or kinds c added (omega (arith, a.kinds))))
 
   -- TABLED: kinds, costs and leads are those of the network
-  pub tabled : Tabled (network_of f) (kinds_in f) (sizes_of f).k (costs_in f) (leads_in f)
+  pub tabled : Tabled (network_of f) (numbers_of (map kind_by (kinds_in f))) (sizes_of f).k (costs_in f) (leads_in f)
   tabled = record {
-    named = kinds_named;
+    named = kinds_same (sizes_of f).k (kinds_in f) ∙ kinds_named;
     few = omega (arith, a.kinds, a.criteria_high);
     priced = λ c r h l. cost_at_lem f c r (omega (arith, a.kinds, a.criteria_high)) l;
     alone = λ r s h l z e.

@@ -4,11 +4,17 @@ use Rattle.lists.specs.Lists.{both, pick, range}
 use Rattle.costs.specs.Costs.{cost_at}
 use Rattle.costs.specs.Network.{row_at}
 use Rattle.network_file.specs.File.{byte_at, network_of}
+use Rattle.fields.specs.declared.Kind.{Kind}
+use Rattle.fields.specs.declared.Kind.TheVariants.{Added, Closing, Worst}
 use Rattle.chosen.specs.Chosen.{rows_on}
 
 -- the bytes of the kinds, four of them; 0 past the end of the file
 unfoldable pub kinds_in : List ℕ → List ℕ
 kinds_in f = byte_at f 9 ∷ byte_at f 10 ∷ byte_at f 11 ∷ byte_at f 12 ∷ []
+
+-- the kind that a byte names: 0 added, 1 the worst, any other closing
+abbrev pub kind_by : ℕ → Kind
+kind_by b = pick (eqb b 0) Added (pick (eqb b 1) Worst Closing)
 
 -- the cost of row r in criterion c at place c * 256 + r; 0 where the file has no such row or criterion
 unfoldable pub costs_in : List ℕ → List ℕ

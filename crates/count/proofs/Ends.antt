@@ -1,4 +1,5 @@
--- How a call of Count ends, by what Open, check 12 and the counting answered (`count_stops`, `count_none`, `count_some`, `count_many`).
+-- How a call of Count ends, by what Open, check 12 and the counting answered (`count_stops`, `count_empty`, `count_some`, `count_many`).
+use Rattle.std.specs.Prelude.{Err, Ok, Result, is_err, true}
 use mathlib.Core.Path.{◌∙◌, ◌≡◌, ap, refl, sym}
 use mathlib.Core.Option.{none-ne-some, none, some}
 use mathlib.Core.List.{List, [], ◌∷◌}
@@ -16,15 +17,23 @@ use Rattle.counts.specs.Count.{count_call, count_checks}
 use Rattle.counts.specs.Matrix.{limit}
 use Rattle.counts.specs.Trees.{tree_count}
 use Rattle.counts.proofs.Count.{count_answered, count_listed, count_refused}
+use Rattle.fields.specs.declared.Header.{Header}
+use Rattle.network.specs.Answers.{opened_of}
+use Rattle.refusals.specs.Refusals.{number_of}
+use Rattle.refusals.specs.declared.Refusal.{Refusal}
 use Rattle.listed.specs.Listed.{listed_call}
 use Rattle.listed.proofs.Answers.{refused_by_lem}
 
 module _ (f : List ℕ) where
-  pub count_stops : (e : ℕ) → open_of f ≡ refused e → refused e ≡ count_call f
+  pub count_stops : (e : ℕ) → refused e ≡ open_of f → refused e ≡ count_call f
   unfolding count_call count_checks
-  count_stops e h = sym (checked_unmet (count_checks f) (tree_count (network_of f)) e (first_unmet_stops (file_checks f) _ e (open_refused f e h)))
+  count_stops e g =
+      let h : open_of f ≡ refused e = sym g in sym (checked_unmet (count_checks f) (tree_count (network_of f)) e (first_unmet_stops (file_checks f) _ e (open_refused f e h)))
 
-  module _ (s : Sizes) (opened : open_of f ≡ answered s) where
+  module _ (s : Sizes) (told : answered s ≡ open_of f) where
+    opened : open_of f ≡ answered s
+    opened = sym told
+
     met : first_unmet (file_checks f) ≡ none
     met = (open_answered f s opened).0
 
@@ -40,6 +49,10 @@ module _ (f : List ℕ) where
         no_tree : (l : List (List ℕ)) → first_unmet (check 12 (some_tree l) ∷ []) ≡ some e → length l ≡ 0
         no_tree [] u = refl
         no_tree (p ∷ l) u = absurd (none-ne-some e u)
+
+    pub count_empty : (r : Result Header Refusal) → is_err r ≡ true → opened_of r ≡ listed_call f → answered 0 ≡ count_call f
+    count_empty (Ok h) t l = cc
+    count_empty (Err e) t l = count_none (number_of e) (sym l)
 
     module _ (r : ℕ) (e : r ≡ min limit (tree_count (network_of f))) where
       pub count_some : r ≤ 4000000000 → answered r ≡ count_call f

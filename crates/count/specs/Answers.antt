@@ -1,9 +1,8 @@
--- What each case of the code's answer says in document 02's terms.
-use Rattle.std.specs.Prelude.{ℕ}
-use Rattle.checks.specs.Checks.{Outcome, answered, refused}
-use Rattle.count.specs.declared.CountAnswer.{CountAnswer}
-use Rattle.count.specs.declared.CountAnswer.TheVariants as answer
+-- What the answer of Count says in document 02's terms.
+use Rattle.std.specs.Prelude.{Result, ℕ}
+use Rattle.checks.specs.Checks.{Outcome}
+use Rattle.refusals.specs.Refusals.{outcome_of}
+use Rattle.refusals.specs.declared.Refusal.{Refusal}
 
-abbrev pub counted_of : CountAnswer → Outcome ℕ
-counted_of (answer.Trees trees) = answered trees
-counted_of (answer.Refused e) = refused e
+abbrev pub counted_of : Result ℕ Refusal → Outcome ℕ
+counted_of = outcome_of (λ trees. trees)

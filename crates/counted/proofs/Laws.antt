@@ -1,140 +1,197 @@
--- Laws of the loops: the links moved one by one (`Moving`), the search for a link (`Seeking`), the links that cannot be merged dropped (`Clearing`), a level copied
--- to the next (`Copied`).
+-- Laws of the loops: the links moved one by one (`Moving`), the links that cannot be merged dropped (`Clearing`), and of what the searches find (`found_from`,
+-- `none_from`, `undropped`).
+use Rattle.std.specs.Prelude.{Bool, None, Option, Some, false, not, true, ◌==◌, slice_range}
+use Rattle.std.specs.List.{position, position_or_len}
+use Rattle.std.proofs.lemmas.Bool.{not-true}
+use Rattle.std.proofs.lemmas.Bool.Decides.{nat_tests}
+use Rattle.std.proofs.lemmas.List.{append-nil, get_or-append_right, get_or-drop, get_or-take, length-take-le, set-append_left, set-append_right}
+use Rattle.std.proofs.lemmas.List.Quantifiers.{position-Some}
+use Rattle.std.proofs.lemmas.List.Sums.{prefix_len_passes}
 use mathlib.Core.Path.{◌∙◌, ◌≡◌, ap, refl, subst, sym}
-use mathlib.Core.List.{List}
+use mathlib.Core.List.{List, [], ◌++◌}
 use Prim.Native.Nat.{◌*◌, ◌+◌, ◌-◌, ◌<◌, ◌≤◌, min, suc, ℕ}
-use native.Mathlib.Decide.{ℕ_discrete}
+use native.Mathlib.Decide.{dec_lt, ℕ_discrete}
 use native.Mathlib.Omega.{arith}
-use lib.ListN.{get_or, length, length-set, set}
-use lib.Seq.{get_or-set_other, get_or-set_same}
+use lib.Seq.{set-get_or}
+use lib.ListN.{drop, drop_of_length-le, get_or, get_or-append, length, length-append, length-drop, length-take, set, take}
+use borrow.Author.Tests.{lt-ltb}
+use borrow.Rule.Slice.PartMut.{post_of, put_mid}
 use Rattle.counts.specs.Counting.{Weight}
-use Rattle.counts.specs.Matrix.{Agree, Matrix, absent, add_held, held_total, limit, matrix_of, move_held, put}
+use Rattle.counts.specs.Matrix.{Agree, Matrix, absent, add_held, held_total, limit, move_held, put}
+use Rattle.counts.proofs.Agreement.{held_agree, move_add, move_agree, move_end, move_skip, move_start}
 use Rattle.counts.proofs.HeldSteps.{held_dropped}
 use Rattle.counts.proofs.Matrix.{put_column, put_same}
-use Rattle.counts.proofs.Arrays.{drop_set, held_agree, move_add, move_agree, move_end, move_skip, move_start}
-use Rattle.weights.specs.Weights.{Added}
-use Rattle.counted.specs.Counted.{Clearing, Copied, FirstLink}
+use Rattle.weights.specs.Weights.{matrix_in, weight_at, weight_in}
+use Rattle.weights.specs.declared.Weight as code
+use Rattle.weights.proofs.Stores.{matrix_set}
+use Rattle.counted.specs.Counted.{Clearing, FirstLink, NoLink}
 
--- The loop that moves the links, at link j
-pub record Moving (v x : ℕ) (d₀ m₀ d m : List ℕ) (j : ℕ) : Type 0 where
+-- The loop that moves the links, at link j, of a matrix z
+pub record Moving (v x : ℕ) (z w : Matrix) (j : ℕ) : Type 0 where
   pub within : j ≤ v
   pub low : x < v
   pub high : v < 32
-  pub some : 1024 ≤ length d₀
-  pub some_merged : 1024 ≤ length m₀
-  pub long : length d ≡ length d₀
-  pub wide : length m ≡ length m₀
-  pub left : Agree (move_held limit (matrix_of d m) v x j (v - j)) (move_held limit (matrix_of d₀ m₀) v x 0 v) (suc v)
+  pub left : Agree (move_held limit w v x j (v - j)) (move_held limit z v x 0 v) (suc v)
 
-pub moving_start : (v x : ℕ) (d m : List ℕ) → x < v → v < 32 → 1024 ≤ length d → 1024 ≤ length m → Moving v x d m d m 0
-moving_start v x d m l h p q = record {
+pub moving_start : (v x : ℕ) (w : Matrix) → x < v → v < 32 → Moving v x w w 0
+moving_start v x w l h = record {
   within = omega arith;
   low = l;
   high = h;
-  some = p;
-  some_merged = q;
-  long = refl;
-  wide = refl;
-  left = λ a b i j. ap (λ (z : Matrix). z a b) (sym (move_start limit (matrix_of d m) v x));
+  left = λ a b i j. ap (λ (z : Matrix). z a b) (sym (move_start limit w v x));
 }
 
-module _ {v x : ℕ} {d₀ m₀ d m : List ℕ} {j : ℕ} (so : Moving v x d₀ m₀ d m j) where
-  pub moving_skip : j < v → j ≡ x → Moving v x d₀ m₀ d m (j + 1)
+module _ {v x : ℕ} {z w : Matrix} {j : ℕ} (so : Moving v x z w j) where
+  pub moving_skip : j < v → j ≡ x → Moving v x z w (j + 1)
   moving_skip l e = record {
     within = omega arith;
     low = so.low;
     high = so.high;
-    some = so.some;
-    some_merged = so.some_merged;
-    long = so.long;
-    wide = so.wide;
-    left = λ a b i k. ap (λ (z : Matrix). z a b) (sym (move_skip limit (matrix_of d m) v x j l e)) ∙ so.left a b i k;
+    left = λ a b i k. ap (λ (z : Matrix). z a b) (sym (move_skip limit w v x j l e)) ∙ so.left a b i k;
   }
 
-  pub moving_next : (ds ms : List ℕ) → j < v → ¬ (j ≡ x) → Added d m x j (matrix_of d m v j) ds ms → Moving v x d₀ m₀ ds ms (j + 1)
-  moving_next ds ms l n e = record {
+  pub moving_next : (u : Matrix) → j < v → ¬ (j ≡ x) → Agree u (add_held limit w x j (w v j)) 32 → Moving v x z u (j + 1)
+  moving_next u l n e = record {
     within = omega arith;
     low = so.low;
     high = so.high;
-    some = so.some;
-    some_merged = so.some_merged;
-    long = e.long ∙ so.long;
-    wide = e.wide ∙ so.wide;
     left = λ a b i k.
-        move_agree limit v x so.low (v - (j + 1)) (j + 1) (omega arith) (matrix_of ds ms) (add_held limit (matrix_of d m) x j (matrix_of d m v j))
-        (λ p q u o. e.agree p q u (omega (arith, so.high))) a b i k
-        ∙ ap (λ (z : Matrix). z a b) (sym (move_add limit (matrix_of d m) v x j l n)) ∙ so.left a b i k;
+        move_agree limit v x so.low (v - (j + 1)) (j + 1) (omega arith) u (add_held limit w x j (w v j))
+        (λ p q u o. e p q u (omega (arith, so.high))) a b i k
+        ∙ ap (λ (z : Matrix). z a b) (sym (move_add limit w v x j l n)) ∙ so.left a b i k;
   }
 
-  pub moving_end : v ≤ j → Agree (matrix_of d m) (move_held limit (matrix_of d₀ m₀) v x 0 v) (suc v)
-  moving_end l a b i k = ap (λ (z : Matrix). z a b) (sym (move_end limit (matrix_of d m) v x j l)) ∙ so.left a b i k
-
--- A link added, by the weight that its own equals
-pub added_as : {d m : List ℕ} {x y : ℕ} {p q : Weight} {ds ms : List ℕ} → p ≡ q → Added d m x y p ds ms → Agree (matrix_of ds ms) (add_held limit (matrix_of d m) x y q) 32
-added_as {d} {m} {x} {y} {p} {q} {ds} {ms} e a = subst (λ (w : Weight). Agree (matrix_of ds ms) (add_held limit (matrix_of d m) x y w) 32) e a.agree
-
--- The search for a link, at node j
-pub record Seeking (ms : List ℕ) (v «from» j : ℕ) : Type 0 where
-  pub above : «from» ≤ j
-  pub below : j ≤ v
-  pub high : v < 32
-  pub long : 1024 ≤ length ms
-  pub before : (i : ℕ) → «from» ≤ i → i < j → get_or ms (v * 32 + i) 0 ≡ 0
-
-pub seeking_next : {ms : List ℕ} {v «from» j : ℕ} → Seeking ms v «from» j → j < v → get_or ms (v * 32 + j) 0 ≡ 0 → Seeking ms v «from» (j + 1)
-seeking_next {ms} {v} {«from»} {j} h l e = record {
-  above = omega (arith, h.above);
-  below = omega arith;
-  high = h.high;
-  long = h.long;
-  before = λ i a b. elim (ℕ_discrete i j) [ yes d ↦ rw d e | no n ↦ h.before i a (omega arith) ];
-}
-
-pub seeking_found : {ms : List ℕ} {v «from» j : ℕ} → Seeking ms v «from» j → ¬ (get_or ms (v * 32 + j) 0 ≡ 0) → FirstLink ms v «from» j
-seeking_found h n = record { above = h.above; below = h.below; before = h.before; found = λ k. n }
-
-pub seeking_none : {ms : List ℕ} {v «from» j : ℕ} → Seeking ms v «from» j → v ≤ j → FirstLink ms v «from» v
-seeking_none h l = record { above = omega (arith, h.above, h.below); below = omega arith; before = λ i a b. h.before i a (omega (arith, h.below)); found = λ k. absurd (omega arith) }
+  pub moving_end : v ≤ j → Agree w (move_held limit z v x 0 v) (suc v)
+  moving_end l a b i k = ap (λ (z : Matrix). z a b) (sym (move_end limit w v x j l)) ∙ so.left a b i k
 
 -- The loop that drops the links that cannot be merged, at link j
 
-pub clearing_start : (ds ms : List ℕ) (v f : ℕ) → Clearing ds ms v f ds f 0
-clearing_start ds ms v f = record { long = refl; same = λ so. refl; clear = λ i h. absurd (omega arith) }
+pub clearing_start : (ws : List code.Weight) (v f : ℕ) → Clearing ws v f ws f 0
+clearing_start ws v f = record { same = λ so. refl; clear = λ i h. absurd (omega arith) }
 
-module _ {ds ms : List ℕ} {v f : ℕ} {d : List ℕ} {g j : ℕ} (so : Clearing ds ms v f d g j) (l : j < v) (h : v < 32) where
-  pub clearing_skip : ¬ (get_or ms (v * 32 + j) 0 ≡ 0) → Clearing ds ms v f d g (j + 1)
+module _ {ws : List code.Weight} {v f : ℕ} {us : List code.Weight} {g j : ℕ} (so : Clearing ws v f us g j) (l : j < v) (h : v < 32) where
+  pub clearing_skip : ¬ ((matrix_in us v j).merged ≡ 0) → Clearing ws v f us g (j + 1)
   clearing_skip n = record {
-    long = so.long;
     same = so.same;
-    clear = λ i k e. elim (ℕ_discrete i j) [ yes q ↦ absurd (n (subst (λ (z : ℕ). get_or ms (v * 32 + z) 0 ≡ 0) q e)) | no q ↦ so.clear i (omega arith) e ];
+    clear = λ i k e. elim (ℕ_discrete i j) [ yes q ↦ absurd (n (subst (λ (z : ℕ). (matrix_in us v z).merged ≡ 0) q e)) | no q ↦ so.clear i (omega arith) e ];
   }
 
-  pub clearing_next : (x : ℕ) → 1024 ≤ length ds → 1024 ≤ length ms → get_or ms (v * 32 + j) 0 ≡ 0 → x ≡ min limit (g * get_or d (v * 32 + j) 0) → Clearing ds ms v f (set d (v * 32 + j) 1) x (j + 1)
-  clearing_next x p w e o = record {
-    long = length-set d (v * 32 + j) 1 ∙ so.long;
-    same = λ s. held_agree limit s x (matrix_of (set d (v * 32 + j) 1) ms) (put (matrix_of d ms) v j absent) (suc v) (λ a b i k. stored a b (omega arith))
-        ∙ ap (λ (z : ℕ). held_total limit s z (put (matrix_of d ms) v j absent) (suc v)) o
-        ∙ sym (held_dropped limit s g (matrix_of d ms) v j l e) ∙ so.same s;
+  pub clearing_next : (x : ℕ) → 1024 ≤ length us → (matrix_in us v j).merged ≡ 0 → x ≡ min limit (g * (matrix_in us v j).dropped)
+      → Clearing ws v f (set us (v * 32 + j) (record { dropped = 1; merged = 0 })) x (j + 1)
+  clearing_next x p e o = record {
+    same = λ s. held_agree limit s x (matrix_in (set us (v * 32 + j) (record { dropped = 1; merged = 0 }))) (put (matrix_in us) v j absent) (suc v) (λ a b i k. stored a b (omega arith))
+        ∙ ap (λ (z : ℕ). held_total limit s z (put (matrix_in us) v j absent) (suc v)) o
+        ∙ sym (held_dropped limit s g (matrix_in us) v j l e) ∙ so.same s;
     clear = λ i k q. elim (ℕ_discrete i j) [
-      | yes z ↦ rw z (stored v j (omega arith) ∙ put_same (matrix_of d ms) v j absent)
-      | no z ↦ stored v i (omega arith) ∙ put_column (matrix_of d ms) v j absent v i z ∙ so.clear i (omega arith) q
+      | yes z ↦ rw z (stored v j (omega arith) ∙ put_same (matrix_in us) v j absent)
+      | no z ↦ kept i (omega arith) z ∙ so.clear i (omega arith) (sym (ap (λ (p : Weight). p.merged) (kept i (omega arith) z)) ∙ q)
     ];
   }
     where
-      stored : (a b : ℕ) → b < 32 → matrix_of (set d (v * 32 + j) 1) ms a b ≡ put (matrix_of d ms) v j absent a b
-      stored a b k = drop_set d ms v j a b (omega (arith, so.long)) (omega arith) (omega arith) k e
+      stored : (a b : ℕ) → b < 32 → matrix_in (set us (v * 32 + j) (record { dropped = 1; merged = 0 })) a b ≡ put (matrix_in us) v j absent a b
+      stored a b k = matrix_set us v j (record { dropped = 1; merged = 0 }) a b (omega arith) (omega arith) k
 
--- The loop that copies the level, at place j
+      kept : (i : ℕ) → i < 32 → ¬ (i ≡ j) → matrix_in (set us (v * 32 + j) (record { dropped = 1; merged = 0 })) v i ≡ matrix_in us v i
+      kept i k n = stored v i k ∙ put_column (matrix_in us) v j absent v i n
 
-pub copied_start : (ps : List ℕ) → Copied ps ps 0
-copied_start ps = record { long = refl; level = λ i l. refl; next = λ i l. absurd (omega arith) }
+-- The links of v, lent to the loop, as they stand in the whole
 
-pub copied_next : {ps qs : List ℕ} {j : ℕ} → Copied ps qs j → j < 1024 → 2048 ≤ length ps → Copied ps (set qs (1024 + j) (get_or qs j 0)) (j + 1)
-copied_next {ps} {qs} {j} so l h = record {
-  long = length-set qs (1024 + j) _ ∙ so.long;
-  level = λ i k. get_or-set_other qs (1024 + j) i _ 0 (λ e. omega arith) ∙ so.level i k;
-  next = λ i k. elim (ℕ_discrete i j) [
-    | yes e ↦ rw e (get_or-set_same qs (1024 + j) (get_or qs j 0) 0 (omega (arith, so.long)) ∙ so.level j l)
-    | no n ↦ get_or-set_other qs (1024 + j) (1024 + i) _ 0 (λ e. n (omega arith)) ∙ so.next i (omega arith)
-  ];
-}
+module _ (ws items : List code.Weight) (a n j : ℕ) (fits : a + n ≤ length ws) (long : length items ≡ n) (low : j < n) where
+  before : length (take a ws) ≡ a
+  before = length-take-le a ws (omega arith)
+
+  from_a : a + j - a ≡ j
+  from_a = omega arith
+
+  pub part_place : weight_at (put_mid a n ws items) (a + j) ≡ weight_at items j
+  part_place = get_or-append_right (take a ws) (items ++ post_of a n ws) a (a + j) _ before (omega arith) ∙ rw from_a (get_or-append items (post_of a n ws) _ j (omega arith))
+
+  pub part_set : (p : code.Weight) → set (put_mid a n ws items) (a + j) p ≡ put_mid a n ws (set items j p)
+  part_set p = set-append_right (take a ws) (items ++ post_of a n ws) a (a + j) p before (omega arith)
+      ∙ ap (λ (z : List code.Weight). take a ws ++ z) (rw from_a (set-append_left items (post_of a n ws) j p (omega arith)))
+
+pub part_length : (ws items : List code.Weight) (a n : ℕ) → a + n ≤ length ws → length items ≡ n → length (put_mid a n ws items) ≡ length ws
+part_length ws items a n h e = simp (length-append, length-take, length-drop) (omega arith)
+
+module _ (ws items : List code.Weight) (v f g j : ℕ) (high : v < 32) (full : 1024 ≤ length ws) (long : length items ≡ v) (low : j < v)
+    (so : Clearing ws v f (put_mid (v * 32) v ws items) g j) where
+  place : weight_at (put_mid (v * 32) v ws items) (v * 32 + j) ≡ weight_at items j
+  place = part_place ws items (v * 32) v j (omega arith) long low
+
+  pub clear_next : (weight_at items j).merged ≡ 0 → (x : ℕ) → x ≡ min limit (g * (weight_at items j).dropped)
+      → Clearing ws v f (put_mid (v * 32) v ws (set items j (record { dropped = 1; merged = (weight_at items j).merged }))) x (j + 1)
+  clear_next e x o = rw (e, ← part_set ws items (v * 32) v j (omega arith) long low (record { dropped = 1; merged = 0 }))
+      (clearing_next so low high x (omega (arith, part_length ws items (v * 32) v (omega arith) long)) (rw place e) (rw place o))
+
+  pub clear_skip : ¬ ((weight_at items j).merged ≡ 0) → Clearing ws v f (put_mid (v * 32) v ws (set items j (weight_at items j))) g (j + 1)
+  clear_skip n = rw set-get_or (clearing_skip so low high (rw place n))
+
+-- What the searches find
+
+position_none : {X : Type 0} (p : X → Bool) (xs : List X) → position p xs ≡ None → (k : ℕ) (d : X) → k < length xs → p (get_or xs k d) ≡ false
+position_none p xs e k d h = elim (dec_lt (position_or_len p xs) (length xs)) [
+  | yes l ↦ absurd (some_none (position_or_len p xs) (position p xs) (simp (lt-ltb _ _ l)) e)
+  | no n ↦ not-true _ (prefix_len_passes (λ x. not (p x)) xs k d (omega arith))
+]
+  where
+    some_none : (i : ℕ) (o : Option ℕ) → o ≡ Some i → o ≡ None → ⊥
+    some_none i o a b = cc
+
+some_merged : (x : ℕ) → not (x == 0) ≡ true → ¬ (x ≡ 0)
+some_merged x h e = grind (arith, nat_tests)
+
+none_merged : (x : ℕ) → not (x == 0) ≡ false → x ≡ 0
+none_merged x h = grind (arith, nat_tests)
+
+module _ (ws : List code.Weight) (v «from» : ℕ) (r : Option ℕ) (l : «from» ≤ v) (h : v * 32 + v ≤ length ws)
+    (found : r ≡ position (λ (w : code.Weight). not (w.merged == 0)) (slice_range ws (v * 32 + «from») (v * 32 + v))) where
+  abbrev part : List code.Weight
+  part = slice_range ws (v * 32 + «from») (v * 32 + v)
+
+  part_long : length part ≡ v - «from»
+  part_long = simp (length-take, length-drop) (omega arith)
+
+  at : (i k : ℕ) → i < v → i ≡ «from» + k → get_or part k (record { dropped = 0; merged = 0 }) ≡ weight_at ws (v * 32 + i)
+  at i k u e =
+      let o : v * 32 + «from» + k ≡ v * 32 + i = omega arith in
+      get_or-take _ (drop (v * 32 + «from») ws) k _ (omega arith) ∙ get_or-drop (v * 32 + «from») ws k _ ∙ ap (weight_at ws) o
+
+  test : (i k : ℕ) → i < v → i ≡ «from» + k
+      → not ((get_or part k (record { dropped = 0; merged = 0 })).merged == 0) ≡ not ((matrix_in ws v i).merged == 0)
+  test i k u e = ap (λ (w : code.Weight). not (w.merged == 0)) (at i k u e)
+
+  pub found_from : (i : ℕ) → r ≡ Some i → FirstLink (matrix_in ws) v «from» («from» + i)
+  found_from i e =
+      let first = position-Some (λ (w : code.Weight). not (w.merged == 0)) part i (record { dropped = 0; merged = 0 }) (sym found ∙ e) in
+      let low : «from» + i < v = omega (arith, first.0, part_long) in
+      record {
+        above = omega arith;
+        below = low;
+        before = λ k j u. none_merged _ (sym (test k (k - «from») (omega arith) (omega arith)) ∙ first.2 (k - «from») (omega arith));
+        found = some_merged _ (sym (test («from» + i) i low refl) ∙ first.1);
+      }
+
+  pub none_from : r ≡ None → NoLink (matrix_in ws) v «from» v
+  none_from e k j u =
+      none_merged _ (sym (test k (k - «from») u (omega arith))
+      ∙ position_none (λ (w : code.Weight). not (w.merged == 0)) part (sym found ∙ e) (k - «from») (record { dropped = 0; merged = 0 }) (omega (arith, part_long)))
+
+-- A level copied: the first n places are those of ws
+pub copied_part : (ws us xs : List code.Weight) (v : ℕ) → us ≡ take ((v + 1) * 32) ws → length us ≡ length (take ((v + 1) * 32) xs)
+    → v < 32 → Agree (matrix_in (us ++ post_of 0 ((v + 1) * 32) xs)) (matrix_in ws) (suc v)
+copied_part ws us xs v e l h i j p q =
+    ap weight_in (start ∙ ap (λ (z : List code.Weight). weight_at z (i * 32 + j)) e ∙ get_or-take ((v + 1) * 32) ws (i * 32 + j) _ (omega arith))
+  where
+    none_left : length us ≤ i * 32 + j → post_of 0 ((v + 1) * 32) xs ≡ []
+    none_left m = drop_of_length-le {A = code.Weight} (drop 0 xs) {i = (v + 1) * 32} (omega (arith, length-drop 0 xs, length-take ((v + 1) * 32) xs))
+
+    start : weight_at (us ++ post_of 0 ((v + 1) * 32) xs) (i * 32 + j) ≡ weight_at us (i * 32 + j)
+    start = elim (dec_lt (i * 32 + j) (length us)) [
+      | yes k ↦ get_or-append us (post_of 0 ((v + 1) * 32) xs) _ (i * 32 + j) k
+      | no k ↦ let none : post_of 0 ((v + 1) * 32) xs ≡ [] = none_left (omega arith) in rw (none, append-nil) refl
+    ]
+
+-- A link made absent
+pub absent_set : (ws : List code.Weight) (v x : ℕ) → 1024 ≤ length ws → x < v → v < 32
+    → Agree (matrix_in (set ws (v * 32 + x) (record { dropped = 1; merged = 0 }))) (put (matrix_in ws) v x absent) 32
+absent_set ws v x l j h a b p q = matrix_set ws v x (record { dropped = 1; merged = 0 }) a b (omega arith) (omega arith) (omega arith)

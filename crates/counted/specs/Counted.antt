@@ -1,33 +1,28 @@
 -- What the searches of the counting code find, and what its loops keep.
-use Rattle.std.specs.Prelude.{◌≡◌, List, ◌*◌, ◌+◌, ◌<◌, ◌≤◌, suc, zero, ℕ, get_or, length}
-use Rattle.counts.specs.Matrix.{Matrix, absent, held_total, limit, matrix_of}
+use Rattle.std.specs.Prelude.{◌≡◌, List, ◌+◌, ◌<◌, ◌≤◌, suc, zero, ℕ}
+use Rattle.counts.specs.Matrix.{Matrix, absent, held_total, limit}
+use Rattle.weights.specs.Weights.{matrix_in}
+use Rattle.weights.specs.declared.Weight.{Weight}
 
--- r is the first link of v from `from` on; v where there is none
-pub record FirstLink (ms : List ℕ) (v «from» r : ℕ) : Type 0 where
-  pub above : «from» ≤ r
-  pub below : r ≤ v
-  pub before : (i : ℕ) → «from» ≤ i → i < r → get_or ms (v * 32 + i) 0 ≡ 0
-  pub found : r < v → ¬ (get_or ms (v * 32 + r) 0 ≡ 0)
+-- v has no link to the nodes from `from` up to `to`
+abbrev pub NoLink : Matrix → ℕ → ℕ → ℕ → Type 0
+NoLink w v «from» to = (i : ℕ) → «from» ≤ i → i < to → (w v i).merged ≡ 0
+
+-- x is the first link of v from `from` on
+pub record FirstLink (w : Matrix) (v «from» x : ℕ) : Type 0 where
+  pub above : «from» ≤ x
+  pub below : x < v
+  pub before : NoLink w v «from» x
+  pub found : ¬ ((w v x).merged ≡ 0)
 
 -- the links of v before j that cannot be merged are absent
 abbrev pub Clear : Matrix → ℕ → ℕ → Type 0
 Clear w v j = (i : ℕ) → i < j → (w v i).merged ≡ 0 → w v i ≡ absent
 
 -- those before j are made absent, and the count is the same
-pub record Clearing (ds ms : List ℕ) (v f : ℕ) (d : List ℕ) (g j : ℕ) : Type 0 where
-  pub long : length d ≡ length ds
-  pub same : (so : ℕ) → held_total limit so g (matrix_of d ms) (suc v) ≡ held_total limit so f (matrix_of ds ms) (suc v)
-  pub clear : Clear (matrix_of d ms) v j
-
--- the first 1,024 places are as they were
-abbrev pub LevelKept : List ℕ → List ℕ → Type 0
-LevelKept ps qs = (i : ℕ) → i < 1024 → get_or qs i 0 ≡ get_or ps i 0
-
--- n places of the level are copied to the next one
-pub record Copied (ps qs : List ℕ) (n : ℕ) : Type 0 where
-  pub long : length qs ≡ length ps
-  pub level : LevelKept ps qs
-  pub next : (i : ℕ) → i < n → get_or qs (1024 + i) 0 ≡ get_or ps i 0
+pub record Clearing (ws : List Weight) (v f : ℕ) (us : List Weight) (g j : ℕ) : Type 0 where
+  pub same : (so : ℕ) → held_total limit so g (matrix_in us) (suc v) ≡ held_total limit so f (matrix_in ws) (suc v)
+  pub clear : Clear (matrix_in us) v j
 
 -- the links among the first k nodes, absent ones too: what the calls' measure counts
 unfoldable pub links_left : ℕ → ℕ

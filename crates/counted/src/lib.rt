@@ -1,162 +1,127 @@
-//! Counting by dropping and by merging: the count of a network whose links' weights stand in two arrays, held at the limit.
+//! Counting by dropping and by merging: the count of a network whose links' weights stand in a table, held at the limit.
 //! The last node is taken away: merged along each of its links in turn, which is then dropped, until one or two are left.
-//! The functions work on a level: the first 1,024 places of two slices, where the weight of nodes a > b stands at a * 32 + b.
-//! Before a node is merged the level is copied to the next one, the 1,024 places behind it.
+//! Before a node is merged its network is copied to the level below; there is one for each node.
+//! The links and their last node are passed side by side: the node falls with each call and the links stay, so a struct of both would be made anew at each.
 #![tactic(auto)]
 
-ghost use Rattle.std.specs.Prelude.{◌≡◌, ◌*◌, ◌+◌, ◌<◌, ◌≤◌, min, suc, get_or, length};
+ghost use Rattle.std.specs.Prelude.{◌≡◌, ◌<◌, ◌≤◌, min, suc, length, IfSome, MatchOption, not, ◌==◌};
+ghost use Rattle.std.specs.List.{position};
 ghost use Rattle.counts.specs.Counting.{behind};
-ghost use Rattle.counts.specs.Matrix.{Agree, add_held, held, held_total, limit, matrix_of, move_held};
-ghost use Rattle.counted.specs.Counted.{Clear, Clearing, Copied, FirstLink, LevelKept};
+ghost use Rattle.counts.specs.Matrix.{Agree, add_held, held, held_total, limit, move_held};
+ghost use Rattle.weights.specs.Weights.{matrix_in};
+ghost use Rattle.counted.specs.Counted.{Clear, Clearing, FirstLink, NoLink};
 
-use weights::Weight;
+use weights::{LIMIT, Links, Weight};
 
 // The links of v that cannot be merged dropped; the factor with these.
-fn cleared(dropped: &mut [u32], merged: &[u32], v: usize, f: u32) -> u32
-    requires { (v < 32) × (1024 ≤ length dropped.old) × (1024 ≤ length merged.now) }
-    ensures { Clearing dropped.old merged.now v f dropped.new result v }
+fn cleared(links: &mut Links, v: usize, f: u32) -> u32
+    requires { v < 32 }
+    ensures { Clearing links.old.weights v f links.new.weights result v }
 {
     let mut g = f;
-    let mut j: usize = 0;
-    while j < v {
-        let at = v * 32 + j;
-        j += 1;
-        if merged[at] == 0 {
-            g = weights::times(g, dropped[at]);
-            dropped[at] = 1;
+    for link in &mut links.weights[v * 32..v * 32 + v] {
+        if link.merged == 0 {
+            g = weights::times(g, link.dropped);
+            link.dropped = 1;
         }
     }
     g
 }
 
-// The first link of node v from node `from` on, or v where there is none.
-fn link_from(merged: &[u32], v: usize, from: usize) -> usize
-    requires { (from ≤ v) × (v < 32) × (1024 ≤ length merged.now) }
-    ensures { FirstLink merged.now v from result }
+// The first of the links that can be merged.
+fn first_merged(links: &[Weight]) -> Option<usize>
+    ensures { result ≡ position (λ link. not (link.merged == 0)) links.now }
 {
-    let mut j = from;
-    while j < v {
-        if merged[v * 32 + j] != 0 {
-            return j;
-        }
-        j += 1;
-    }
-    v
+    links.iter().position(|link| link.merged != 0)
 }
 
-// The first node to which a link of v cannot be dropped, or v where there is none.
-fn must_link(dropped: &[u32], v: usize) -> usize
-    requires { (v < 32) × (1024 ≤ length dropped.now) }
-    ensures { (result ≤ v) × (result < v → get_or dropped.now (v * 32 + result) 0 ≡ 0) }
+// The first link of node v from node `from` on.
+fn link_from(links: &Links, v: usize, from: usize) -> Option<usize>
+    requires { (from ≤ v) × (v < 32) }
+    ensures { MatchOption result (NoLink (matrix_in links.now.weights) v from v) (λ x. FirstLink (matrix_in links.now.weights) v from x) }
 {
-    let mut j: usize = 0;
-    while j < v {
-        if dropped[v * 32 + j] == 0 {
-            return j;
-        }
-        j += 1;
-    }
-    v
+    let row = v * 32;
+    let passed = first_merged(&links.weights[row + from..row + v])?;
+    Some(from + passed)
 }
 
-// The level's rows of the first v + 1 nodes, copied to the next level.
-fn copied(places: &mut [u32], v: usize)
-    requires { (v < 32) × (2048 ≤ length places.old) }
-    ensures { Copied places.old places.new ((v + 1) * 32) }
+// The first node to which a link of v cannot be dropped.
+fn must_link(links: &Links, v: usize) -> Option<usize>
+    requires { v < 32 }
+    ensures { IfSome result (λ x. (x < v) × ((matrix_in links.now.weights v x).dropped ≡ 0)) }
+{
+    links.weights[v * 32..v * 32 + v]
+        .iter()
+        .position(|link| link.dropped == 0)
+}
+
+// The links of the first v + 1 nodes, copied to the level below.
+fn copied(links: &Links, next: &mut Links, v: usize)
+    requires { v < 32 }
+    ensures { Agree (matrix_in next.new.weights) (matrix_in links.now.weights) (suc v) }
 {
     let n = (v + 1) * 32;
-    let mut i: usize = 0;
-    while i < n {
-        places[1024 + i] = places[i];
-        i += 1;
-    }
+    next.weights[..n].copy_from_slice(&links.weights[..n]);
 }
 
 // Node v's links moved to x.
-fn moved(dropped: &mut [u32], merged: &mut [u32], v: usize, x: usize)
-    requires { (x < v) × (v < 32) × (1024 ≤ length dropped.old) × (1024 ≤ length merged.old) }
-    ensures { Agree (matrix_of dropped.new merged.new) (move_held limit (matrix_of dropped.old merged.old) v x 0 v) (suc v) }
+fn moved(links: &mut Links, v: usize, x: usize)
+    requires { (x < v) × (v < 32) }
+    ensures { Agree (matrix_in links.new.weights) (move_held limit (matrix_in links.old.weights) v x 0 v) (suc v) }
 {
-    let mut j: usize = 0;
-    while j < v {
-        let i = j;
-        j += 1;
-        if i != x {
-            let at = v * 32 + i;
-            let weight = Weight {
-                dropped: dropped[at],
-                merged: merged[at],
-            };
-            weights::add(dropped, merged, x, i, weight);
+    for y in 0..v {
+        if y != x {
+            links.add(x, y, links.weights[v * 32 + y]);
         }
     }
 }
 
 // The links of v to x and y, one after the other, as a link between x and y.
-fn chained(dropped: &mut [u32], merged: &mut [u32], v: usize, x: usize, y: usize)
-    requires { (x < v) × (y < v) × (¬ (x ≡ y)) × (v < 32) × (1024 ≤ length dropped.old) × (1024 ≤ length merged.old) }
-    ensures { Agree (matrix_of dropped.new merged.new)
-        (add_held limit (matrix_of dropped.old merged.old) x y
-        (held limit (behind (matrix_of dropped.old merged.old v x) (matrix_of dropped.old merged.old v y)))) 32 }
+fn chained(links: &mut Links, v: usize, x: usize, y: usize)
+    requires { (x < v) × (y < v) × (¬ (x ≡ y)) × (v < 32) }
+    ensures { Agree (matrix_in links.new.weights)
+        (add_held limit (matrix_in links.old.weights) x y
+        (held limit (behind (matrix_in links.old.weights v x) (matrix_in links.old.weights v y)))) 32 }
 {
-    let first = v * 32 + x;
-    let second = v * 32 + y;
-    let one = Weight {
-        dropped: dropped[first],
-        merged: merged[first],
-    };
-    let other = Weight {
-        dropped: dropped[second],
-        merged: merged[second],
-    };
-    weights::add(dropped, merged, x, y, weights::behind(one, other));
+    let one = links.weights[v * 32 + x];
+    let other = links.weights[v * 32 + y];
+    links.add(x, y, one.behind(other));
 }
 
-// The count by merging: the last node v into x, to which its link is dropped already. It is made in the next level.
+// The count by merging: the last node v into x, to which its link is dropped already. It is made in the level below.
 #[cycle(by_links_dropping_merging)]
-fn merging(dropped: &mut [u32], merged: &mut [u32], v: usize, x: usize, f: u32, so: u32) -> u32
-    requires { (x < v) × (v < 32) × (so ≤ limit) × (1024 * (v + 1) ≤ length dropped.old) × (1024 * (v + 1) ≤ length merged.old) }
-    ensures { (result ≡ held_total limit so f (move_held limit (matrix_of dropped.old merged.old) v x 0 v) v)
-        × (result ≤ limit) × LevelKept dropped.old dropped.new × LevelKept merged.old merged.new }
+fn merging(links: &Links, below: &mut [Links], v: usize, x: usize, f: u32, so: u32) -> u32
+    requires { (x < v) × (v < 32) × (so ≤ limit) × (v ≤ length below.old) }
+    ensures { (result ≡ held_total limit so f (move_held limit (matrix_in links.now.weights) v x 0 v) v) × (result ≤ limit) }
 {
-    copied(dropped, v);
-    copied(merged, v);
-    let d = &mut dropped[1024..];
-    let m = &mut merged[1024..];
-    moved(d, m, v, x);
-    dropping(d, m, v, f, so)
+    let (next, rest) = below.split_first_mut().unwrap();
+    copied(links, next, v);
+    moved(next, v, x);
+    dropping(next, rest, v, f, so)
 }
 
 // The links of the last node v, one after the other. Those that cannot be merged are absent.
 #[cycle(by_links_dropping_merging)]
-fn by_links(dropped: &mut [u32], merged: &mut [u32], v: usize, f: u32, so: u32) -> u32
-    requires { (1 ≤ v) × (v < 32) × (so ≤ limit) × (1024 * (v + 1) ≤ length dropped.old) × (1024 * (v + 1) ≤ length merged.old) × Clear (matrix_of dropped.old merged.old) v v }
-    ensures { (result ≡ held_total limit so f (matrix_of dropped.old merged.old) (suc v)) × (result ≤ limit) }
+fn by_links(links: &mut Links, below: &mut [Links], v: usize, f: u32, so: u32) -> u32
+    requires { (1 ≤ v) × (v < 32) × (so ≤ limit) × (v ≤ length below.old) × Clear (matrix_in links.old.weights) v v }
+    ensures { (result ≡ held_total limit so f (matrix_in links.old.weights) (suc v)) × (result ≤ limit) }
 {
     let mut g = f;
     let mut s = so;
-    let mut from: usize = 0;
-    while from < v {
-        let x = link_from(merged, v, from);
-        if x == v {
-            return s;
-        }
+    let mut from = 0;
+    while let Some(x) = link_from(links, v, from) {
         let at = v * 32 + x;
-        let p = dropped[at];
-        let q = merged[at];
-        let y = link_from(merged, v, x + 1);
-        if y == v {
-            return dropping(dropped, merged, v, weights::times(g, q), s);
-        }
-        let z = link_from(merged, v, y + 1);
-        if z == v {
-            chained(dropped, merged, v, x, y);
-            return dropping(dropped, merged, v, g, s);
-        }
-        dropped[at] = 1;
-        merged[at] = 0;
-        s = merging(dropped, merged, v, x, weights::times(g, q), s);
-        g = weights::times(g, p);
+        let first = links.weights[at];
+        let Some(y) = link_from(links, v, x + 1) else {
+            return dropping(links, below, v, weights::times(g, first.merged), s);
+        };
+        let Some(_) = link_from(links, v, y + 1) else {
+            chained(links, v, x, y);
+            return dropping(links, below, v, g, s);
+        };
+        links.weights[at] = Weight::ABSENT;
+        s = merging(links, below, v, x, weights::times(g, first.merged), s);
+        g = weights::times(g, first.dropped);
         from = x + 1;
     }
     s
@@ -164,48 +129,40 @@ fn by_links(dropped: &mut [u32], merged: &mut [u32], v: usize, f: u32, so: u32) 
 
 // The count by dropping: what was counted so far, and f times the count of the first k nodes. There is a level for each of them.
 #[cycle(by_links_dropping_merging)]
-fn dropping(dropped: &mut [u32], merged: &mut [u32], k: usize, f: u32, so: u32) -> u32
-    requires { (1 ≤ k) × (k ≤ 32) × (so ≤ limit) × (1024 * k ≤ length dropped.old) × (1024 * k ≤ length merged.old) }
-    ensures { (result ≡ held_total limit so f (matrix_of dropped.old merged.old) k) × (result ≤ limit) }
+fn dropping(links: &mut Links, below: &mut [Links], k: usize, f: u32, so: u32) -> u32
+    requires { (1 ≤ k) × (k ≤ 32) × (so ≤ limit) × (k ≤ suc (length below.old)) }
+    ensures { (result ≡ held_total limit so f (matrix_in links.old.weights) k) × (result ≤ limit) }
 {
-    if so == 4000000001 {
-        return so;
-    }
-    if f == 0 {
+    if so == LIMIT || f == 0 {
         return so;
     }
     if k == 1 {
         return weights::plus(so, f);
     }
     if k == 2 {
-        return weights::plus(so, weights::times(f, merged[32]));
+        return weights::plus(so, weights::times(f, links.weights[32].merged));
     }
     let v = k - 1;
-    let g = cleared(dropped, merged, v, f);
-    let x = must_link(dropped, v);
-    if x == v {
-        return by_links(dropped, merged, v, g, so);
-    }
+    let g = cleared(links, v, f);
+    let Some(x) = must_link(links, v) else {
+        return by_links(links, below, v, g, so);
+    };
     // a link that cannot be dropped: the node is only merged along it
     let at = v * 32 + x;
-    let q = merged[at];
-    dropped[at] = 1;
-    merged[at] = 0;
-    moved(dropped, merged, v, x);
-    dropping(dropped, merged, v, weights::times(g, q), so)
+    let q = links.weights[at].merged;
+    links.weights[at] = Weight::ABSENT;
+    moved(links, v, x);
+    dropping(links, below, v, weights::times(g, q), so)
 }
 
 /// The count of the first k nodes, of at most 32, held at the limit.
-pub fn counted(dropped: [u32; 1024], merged: [u32; 1024], k: usize) -> u32
-    ensures { result ≡ held_total limit 0 1 (matrix_of dropped merged) (min k 32) }
+pub fn counted(links: Links, k: usize) -> u32
+    ensures { result ≡ held_total limit 0 1 (matrix_in links.weights) (min k 32) }
 {
     if k == 0 {
         return 0;
     }
-    let nodes = if k < 32 { k } else { 32 };
-    let mut d = [0u32; 32768];
-    let mut m = [0u32; 32768];
-    copies::copy_costs(&mut d, 0, &dropped[..], 1024);
-    copies::copy_costs(&mut m, 0, &merged[..], 1024);
-    dropping(&mut d, &mut m, nodes, 1, 0)
+    let mut first = links;
+    let mut below = [links; 31];
+    dropping(&mut first, &mut below, k.min(32), 1, 0)
 }

@@ -8,6 +8,6 @@ pub mod Listed
 pub mod Fill
 pub mod HeldSteps
 pub mod States
-pub mod Arrays
+pub mod Agreement
 pub mod Rows
 pub mod Count

@@ -1,6 +1,6 @@
 -- The count over a matrix of weights: nodes 0 to k - 1, and a weight for each pair a > b, (1, 0) where nothing joins them. The last node is taken away by
 -- dropping its links one after the other, or merging it along one.
-use Rattle.std.specs.Prelude.{◌≡◌, ◌&&◌, List, [], ◌++◌, ◌∷◌, ◌*◌, ◌+◌, ◌<◌, min, suc, zero, ℕ, eqb, ltb, get_or}
+use Rattle.std.specs.Prelude.{◌≡◌, ◌&&◌, List, [], ◌++◌, ◌∷◌, ◌*◌, ◌+◌, ◌<◌, min, suc, zero, ℕ, eqb, ltb}
 use Rattle.lists.specs.Lists.{pick, range}
 use Rattle.counts.specs.Counting.{Link, Weight, beside, count, link, weigh}
 
@@ -68,7 +68,3 @@ move_held L w v x j (suc n) = move_held L (pick (eqb j x) w (add_held L w x j (w
 unfoldable pub held_total : ℕ → ℕ → ℕ → Matrix → ℕ → ℕ
 unfolding total
 held_total L so f w k = min L (so + f * total w k)
-
--- the matrix that the first 32 × 32 places of two arrays hold
-abbrev pub matrix_of : List ℕ → List ℕ → Matrix
-matrix_of ds ms a b = weigh (get_or ds (a * 32 + b) 0) (get_or ms (a * 32 + b) 0)

@@ -2,8 +2,7 @@
 //! with its version, a byte of 1 or 2. A refusal is said on the standard error, and nothing is written then.
 #![tactic(auto)]
 
-use edge_read::ReadAnswer;
-use edge_write::WriteAnswer;
+use refusals::Refusal;
 
 // The descriptor of the standard input.
 const STDIN_FILENO: i32 = 0;
@@ -14,69 +13,43 @@ const STDOUT_FILENO: i32 = 1;
 // The descriptor of the standard error.
 const STDERR_FILENO: i32 = 2;
 
-// Writes the first bytes of the buffer to the standard output.
-fn write(out: &[u8], length: u32) {
-    io::write_all(STDOUT_FILENO, printout::shown(out, length as usize));
+// Converts the input, a network file if it begins with 1 or 2, as no text does; answers how many bytes are put into the buffer.
+fn convert(input: &[u8], out: &mut [u8]) -> Result<u32, Refusal> {
+    match input.first() {
+        Some(1 | 2) => edge_write::write(input, out),
+        _ => edge_read::read(input, out),
+    }
 }
 
 // What is turned away.
-fn print_refusal(out: &mut [u8], number: u8) {
-    let mut at = printout::text(out, 0, b"refused");
-    at = printout::number(out, at, number as u64);
-    at = printout::ended(out, at);
-    io::write_all(STDERR_FILENO, printout::shown(out, at));
-}
-
-// The network file of a text.
-fn print_network(out: &mut [u8], text: &[u8]) {
-    let answer = edge_read::read(text, out);
-    match answer {
-        ReadAnswer::Length(length) => write(out, length),
-        ReadAnswer::Refused(number) => print_refusal(out, number),
-    }
-}
-
-// The text of a network file.
-fn print_text(out: &mut [u8], file: &[u8]) {
-    let answer = edge_write::write(file, out);
-    match answer {
-        WriteAnswer::Length(length) => write(out, length),
-        WriteAnswer::Refused(number) => print_refusal(out, number),
-    }
-}
-
-// Whether the input begins as a network file does; no text begins so.
-fn is_network(input: &[u8]) -> bool {
-    if input.len() == 0 {
-        return false;
-    }
-    if input[0] == 1 { true } else { input[0] == 2 }
+fn print_refusal(out: &mut [u8], refusal: Refusal) {
+    let said = printout::text(out, 0, b"refused");
+    let numbered = printout::number(out, said, refusal.number() as u64);
+    let end = printout::ended(out, numbered);
+    io::write_all(STDERR_FILENO, printout::shown(out, end));
 }
 
 // Whether there is more to read: an input is not cut off.
 fn is_longer() -> bool {
-    let mut next = [0u8; 1];
+    let mut next = [0; 1];
     io::read_full(STDIN_FILENO, &mut next) != 0
-}
-
-fn convert(out: &mut [u8], input: &[u8]) {
-    if is_network(input) {
-        print_text(out, input);
-    } else {
-        print_network(out, input);
-    }
 }
 
 fn main() {
     let mut space = io::large_buffer();
     let got = io::read_full(STDIN_FILENO, &mut space);
-    let mut out = io::large_buffer();
     if is_longer() {
         io::write_all(
             STDERR_FILENO,
             b"dimacs: the input has more than 65,536 bytes\n",
         );
-    } else {
-        convert(&mut out, &space[..got]);
+        return;
+    }
+    let mut out = io::large_buffer();
+    match convert(printout::shown(&space, got), &mut out) {
+        Ok(length) => {
+            io::write_all(STDOUT_FILENO, printout::shown(&out, length as usize));
+        }
+        Err(refusal) => print_refusal(&mut out, refusal),
     }
 }

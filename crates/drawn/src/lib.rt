@@ -3,31 +3,19 @@
 #![tactic(auto)]
 
 ghost use Rattle.std.specs.Prelude.{◌≡◌};
-ghost use Rattle.network.specs.Answers.{opened_of};
 ghost use Rattle.tried.specs.Answers.{drawn_of};
-ghost use Rattle.drawn.specs.Answers.{drawn_call, number_of};
+ghost use Rattle.drawn.specs.Answers.{drawn_call};
 
-use network::Opened;
-use tried::DrawnAnswer;
+use chart::Chart;
+use paths::Path;
+use refusals::Refusal;
 
-fn number_of(opened: Opened) -> u8
-    ensures { result ≡ number_of (opened_of opened) }
-{
-    match opened {
-        Opened::Header(_) => 0,
-        Opened::Refused(number) => number,
-    }
-}
-
-/// Open's checks, then 8, 9, 10 and 15, of rows drawn in any sequence.
-pub fn drawn(file: &[u8], rows: &[u16]) -> DrawnAnswer
+/// The minimal path of rows drawn in any sequence, behind Open's checks and then 8, 9, 10 and 15.
+pub fn drawn(file: &[u8], rows: &[u16]) -> Result<Path, Refusal>
     ensures { drawn_of result ≡ drawn_call file.now rows.now }
 {
-    let opened = network::open(file);
-    let Opened::Header(_) = opened else {
-        return tried::refused(number_of(opened));
-    };
-    let mut chart = [0u64; chart::LENGTH];
+    network::open(file)?;
+    let mut chart = Chart::empty();
     charting::of_file(file, &mut chart);
     tried::tried(&chart, rows)
 }

@@ -3,17 +3,17 @@ use mathlib.Core.Path.{◌∙◌, ◌≡◌, ap, refl, sym}
 use mathlib.Core.Bool.{Bool, ◌&&◌, false, true}
 use mathlib.Core.Option.{Option, none, some}
 use mathlib.Core.List.{List, [], ◌∷◌}
-use Prim.Native.Nat.{◌-◌, ◌≤◌, ℕ}
+use Prim.Native.Nat.{◌<◌, ℕ}
 use native.Mathlib.Omega.{arith}
-use lib.Dec.{T, eqb}
-use lib.ListN.{drop, get_or, length, length-drop, take}
-use lib.Seq.{take_all}
+use lib.Dec.{eqb}
+use lib.ListN.{drop, get_or, length, take}
+use lib.Pointwise.{pointwise}
+use Rattle.std.specs.Prelude.{nat_eq}
 use Rattle.lists.specs.Lists.{member, pick}
-use Rattle.lists.proofs.Tests.{T-both, T_true}
 use Rattle.edge_file.specs.Decimal.{number_of}
-use Rattle.edge_lines.specs.Numbers.{two_if}
 use Rattle.edge_lines.specs.Reading.{before, behind, both_of, edge_from, held_line, held_two, line_by, problem_from, starts, two_by, two_of}
-use Rattle.edge_file.specs.Text.{Ends, Line, comment, edge, edge_of, is_comment, line_of, other, problem, problem_of, space}
+use Rattle.edge_file.specs.Text.{Ends, comment, edge_of, is_comment, line_of, other, problem_of, space}
+use Rattle.edge_lines.proofs.Places.{starts_same}
 use Rattle.edge_lines.proofs.Reading.{line_by_lem}
 
 -- two numbers, by either form
@@ -52,19 +52,13 @@ problem_held : (o : Option Ends) → problem_from (held_two o) ≡ held_line (pr
 problem_held none = refl
 problem_held (some e) = refl
 
--- what begins with others is as long
-starts_room : (xs l : List ℕ) → T (starts xs l) → length xs ≤ length l
-unfolding starts
-starts_room [] l t = omega arith
-starts_room (x ∷ xs) [] t = absurd t
-starts_room (x ∷ xs) (b ∷ l) t = omega (arith, starts_room xs l ((T-both (eqb b x) (starts xs l)).0 t).1)
+-- whether bytes begin with others, as the library tells it
+begun : (xs l : List ℕ) {t : Bool} → pointwise nat_eq (take (length xs) l) xs ≡ t → starts xs l ≡ t
+begun xs l told = sym (starts_same xs l) ∙ told
 
-pub starts_long : (xs l : List ℕ) → starts xs l ≡ true → length xs ≤ length l
-starts_long xs l e = starts_room xs l ((T_true (starts xs l)).1 e)
-
--- the bytes from a place on
-rest_is : (l : List ℕ) (n : ℕ) → take (length l - n) (drop n l) ≡ drop n l
-rest_is l n = take_all (length l - n) (drop n l) (simp length-drop (omega arith))
+-- a test of the first bytes
+abbrev Begins : List ℕ → List ℕ → Bool → Type 0
+Begins xs l t = pointwise nat_eq (take (length xs) l) xs ≡ t
 
 module _ (l : List ℕ) where
   pub line_comment : is_comment l ≡ true → comment ≡ held_line (line_of l)
@@ -72,31 +66,30 @@ module _ (l : List ℕ) where
   line_comment e = sym (ap held_line (line_by_lem l) ∙ (rw e))
 
   module _ (plain : is_comment l ≡ false) where
-    pub line_edge : starts (101 ∷ 32 ∷ []) l ≡ true → {o : Option Ends} → o ≡ held_two (two_of (take (length l - 2) (drop 2 l))) → {r : Line} → r ≡ edge_from o
-        → r ≡ held_line (line_of l)
+    pub line_edge : {rest : List ℕ} → Begins (101 ∷ 32 ∷ []) l true → rest ≡ drop 2 l → {o : Option Ends} → o ≡ held_two (two_of rest) → edge_from o ≡ held_line (line_of l)
     unfolding line_by
-    line_edge s e f =
-        f ∙ ap edge_from (e ∙ ap (λ (x : List ℕ). held_two (two_of x)) (rest_is l 2)) ∙ edge_held (two_of (drop 2 l)) ∙ ap held_line (sym (edge_two (drop 2 l)))
+    line_edge told is e =
+        let s = begun (101 ∷ 32 ∷ []) l told in
+        ap edge_from (e ∙ ap (λ (x : List ℕ). held_two (two_of x)) is) ∙ edge_held (two_of (drop 2 l)) ∙ ap held_line (sym (edge_two (drop 2 l)))
         ∙ sym (ap held_line (line_by_lem l) ∙ (rw (plain, s)))
 
-    module _ (no_edge : starts (101 ∷ 32 ∷ []) l ≡ false) where
-      pub line_problem : starts (112 ∷ 32 ∷ 101 ∷ 100 ∷ 103 ∷ 101 ∷ 32 ∷ []) l ≡ true → {o : Option Ends} → o ≡ held_two (two_of (take (length l - 7) (drop 7 l)))
-          → {r : Line} → r ≡ problem_from o → r ≡ held_line (line_of l)
+    module _ (no_edge : Begins (101 ∷ 32 ∷ []) l false) where
+      no_e : starts (101 ∷ 32 ∷ []) l ≡ false
+      no_e = begun (101 ∷ 32 ∷ []) l no_edge
+
+      pub line_problem : {rest : List ℕ} → Begins (112 ∷ 32 ∷ 101 ∷ 100 ∷ 103 ∷ 101 ∷ 32 ∷ []) l true → rest ≡ drop 7 l → {o : Option Ends} → o ≡ held_two (two_of rest)
+          → problem_from o ≡ held_line (line_of l)
       unfolding line_by
-      line_problem s e f =
-          f ∙ ap problem_from (e ∙ ap (λ (x : List ℕ). held_two (two_of x)) (rest_is l 7)) ∙ problem_held (two_of (drop 7 l)) ∙ ap held_line (sym (problem_two (drop 7 l)))
-          ∙ sym (ap held_line (line_by_lem l) ∙ (rw (plain, no_edge, s)))
+      line_problem told is e =
+          let s = begun (112 ∷ 32 ∷ 101 ∷ 100 ∷ 103 ∷ 101 ∷ 32 ∷ []) l told in
+          ap problem_from (e ∙ ap (λ (x : List ℕ). held_two (two_of x)) is) ∙ problem_held (two_of (drop 7 l)) ∙ ap held_line (sym (problem_two (drop 7 l)))
+          ∙ sym (ap held_line (line_by_lem l) ∙ (rw (plain, no_e, s)))
 
-      pub line_other : starts (112 ∷ 32 ∷ 101 ∷ 100 ∷ 103 ∷ 101 ∷ 32 ∷ []) l ≡ false → other ≡ held_line (line_of l)
+      pub line_other : Begins (112 ∷ 32 ∷ 101 ∷ 100 ∷ 103 ∷ 101 ∷ 32 ∷ []) l false → other ≡ held_line (line_of l)
       unfolding line_by
-      line_other s = sym (ap held_line (line_by_lem l) ∙ (rw (plain, no_edge, s)))
-
--- the code's two numbers as a line
-pub edge_if : {b : Bool} (x y : ℕ) → b ≡ true → edge x y ≡ edge_from (two_if b x y)
-edge_if x y e = rw e
-
-pub problem_if : {b : Bool} (x y : ℕ) → b ≡ true → problem x y ≡ problem_from (two_if b x y)
-problem_if x y e = rw e
+      line_other told =
+          let s = begun (112 ∷ 32 ∷ 101 ∷ 100 ∷ 103 ∷ 101 ∷ 32 ∷ []) l told in
+          sym (ap held_line (line_by_lem l) ∙ (rw (plain, no_e, s)))
 
 -- comments by their length
 pub comment_none : (l : List ℕ) → length l ≡ 0 → is_comment l ≡ false
@@ -110,8 +103,8 @@ comment_one [] e = absurd (omega arith)
 comment_one (b ∷ []) e = refl
 comment_one (b ∷ d ∷ l) e = absurd (omega arith)
 
-pub comment_more : (l : List ℕ) → ¬ (length l ≡ 0) → ¬ (length l ≡ 1) → is_comment l ≡ (eqb (get_or l 0 0) 99 && eqb (get_or l 1 0) 32)
+pub comment_more : (l : List ℕ) → 1 < length l → is_comment l ≡ (eqb (get_or l 0 0) 99 && eqb (get_or l 1 0) 32)
 unfolding is_comment
-comment_more [] n m = absurd (n refl)
-comment_more (b ∷ []) n m = absurd (m refl)
-comment_more (b ∷ d ∷ l) n m = refl
+comment_more [] more = absurd (omega arith)
+comment_more (b ∷ []) more = absurd (omega arith)
+comment_more (b ∷ d ∷ l) more = refl

@@ -6,11 +6,10 @@ use mathlib.Core.List.{List, [], ◌∷◌}
 use Prim.Native.Nat.{◌*◌, ◌+◌, ◌-◌, ◌<◌, ◌≤◌, min, ℕ}
 use native.Mathlib.Numerals.{add-one}
 use native.Mathlib.Omega.{arith}
-use lib.Dec.{eqb, leb, leb→le}
+use lib.Dec.{eqb}
 use lib.ListN.{drop, drop_of_length-le, get_or, length}
 use lib.Seq.{drop-cons}
 use Rattle.lists.specs.Lists.{all, both, pick}
-use Rattle.lists.proofs.Tests.{T-both, T_true}
 use Rattle.edge_file.specs.Decimal.{is_digit, leads, number_of, value_from}
 use Rattle.edge_lines.specs.Reading.{cap, capped_from, held_at}
 use Rattle.edge_lines.proofs.Reading.{capped_value}
@@ -70,11 +69,8 @@ leads_one [] e = absurd (omega arith)
 leads_one (b ∷ []) e = refl
 leads_one (b ∷ c ∷ l) e = absurd (omega arith)
 
-pub leads_more : (bytes : List ℕ) → ¬ (length bytes ≡ 0) → ¬ (length bytes ≡ 1) → leads bytes ≡ not (eqb (get_or bytes 0 0) 48)
+pub leads_more : (bytes : List ℕ) → 1 < length bytes → leads bytes ≡ not (eqb (get_or bytes 0 0) 48)
 unfolding leads
-leads_more [] n m = absurd (n refl)
-leads_more (b ∷ []) n m = absurd (m refl)
-leads_more (b ∷ c ∷ l) n m = refl
-
-pub digit_range : (b : ℕ) → is_digit b ≡ true → (48 ≤ b) × (b ≤ 57)
-digit_range b e = let (l, h) = (T-both (leb 48 b) (leb b 57)).0 ((T_true (is_digit b)).1 e) in (leb→le 48 b l, leb→le b 57 h)
+leads_more [] more = absurd (omega arith)
+leads_more (b ∷ []) more = absurd (omega arith)
+leads_more (b ∷ c ∷ l) more = refl

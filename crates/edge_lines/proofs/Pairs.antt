@@ -1,6 +1,5 @@
 -- Two numbers parted by a space, read at the place of the first space.
 use mathlib.Core.Path.{◌∙◌, ◌≡◌, ap, ap₂, refl, sym}
-use mathlib.Core.Bool.{Bool, false, true}
 use mathlib.Core.Option.{Option, none, some}
 use mathlib.Core.List.{List}
 use Prim.Native.Nat.{◌+◌, ◌-◌, ◌<◌, ◌≤◌, ℕ}
@@ -9,7 +8,6 @@ use lib.ListN.{drop, length, length-drop, take}
 use lib.Seq.{take_all}
 use Rattle.lists.specs.Lists.{pick}
 use Rattle.edge_file.specs.Decimal.{number_of}
-use Rattle.edge_lines.specs.Numbers.{one_if, two_if}
 use Rattle.edge_lines.specs.Reading.{before, behind, both_of, held_at, held_two, two_of}
 use Rattle.edge_file.specs.Text.{Ends, space}
 use Rattle.edge_lines.proofs.Places.{before_take, behind_drop, member_none, member_place}
@@ -18,14 +16,6 @@ both_held : (x y : Option ℕ) → both_of (held_at x) (held_at y) ≡ held_two 
 both_held none y = refl
 both_held (some x) none = refl
 both_held (some x) (some y) = refl
-
--- the code's answer, where the first is a number and where it is none
-pub both_some : {a : Bool} (b : Bool) (x y : ℕ) → a ≡ true → two_if b x y ≡ both_of (one_if a x) (one_if b y)
-both_some true x y e = rw e
-both_some false x y e = rw e
-
-pub both_none : {a : Bool} (x : ℕ) (o : Option ℕ) → a ≡ false → none ≡ both_of (one_if a x) o
-both_none x o e = rw e
 
 module _ (l : List ℕ) {at : ℕ} (is : at ≡ length (before space l)) where
   pub two_none : length l ≤ at → none ≡ held_two (two_of l)

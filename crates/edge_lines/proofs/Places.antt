@@ -1,13 +1,15 @@
--- The first byte of a kind, and bytes that begin with others, as a loop meets them; what stands before and behind that place.
-use mathlib.Core.Path.{◌∙◌, ◌≡◌, ap, ap₂, refl, sym}
+-- The first byte of a kind, and what stands before and behind it; bytes that begin with others.
+use mathlib.Core.Path.{◌∙◌, ◌≡◌, ap, refl, sym}
 use mathlib.Core.Bool.{Bool, ◌&&◌, false, true}
 use mathlib.Core.List.{List, [], ◌∷◌}
-use Prim.Native.Nat.{◌+◌, ◌<◌, ◌≤◌, suc, ℕ}
+use Prim.Native.Nat.{◌+◌, ◌<◌, ◌≤◌, suc, zero, ℕ}
 use native.Mathlib.Decide.{ℕ_discrete}
 use native.Mathlib.Numerals.{add-one}
 use native.Mathlib.Omega.{arith}
-use lib.ListN.{drop, drop_of_length-le, get_or, length, take}
-use lib.Seq.{drop-cons}
+use lib.Dec.{eqb}
+use lib.ListN.{drop, get_or, length, take}
+use lib.Pointwise.{pointwise}
+use Rattle.std.specs.Prelude.{nat_eq}
 use borrow.Author.Tests.{eq-eqb, ne_eqb}
 use Rattle.lists.specs.Lists.{any, member}
 use Rattle.edge_lines.specs.Reading.{before, behind, starts}
@@ -57,41 +59,23 @@ module _ (s : ℕ) where
     | no n ↦ (before_there b l n).2 ∙ member_none l (omega (arith, ap length (before_there b l n).0))
   ]
 
-  -- The loop that looks for it has come to place i
-  module _ (l : List ℕ) (i : ℕ) where
-    abbrev pub PlaceTo : Type 0
-    PlaceTo = (i ≤ length l) × (length (before s l) ≡ i + length (before s (drop i l)))
+  -- the first place of the kind, and that there is none
+  pub place_first : (l : List ℕ) {i : ℕ} → i < length l → get_or l i 0 ≡ s → ((k : ℕ) → k < i → ¬ (get_or l k 0 ≡ s)) → i ≡ length (before s l)
+  unfolding before
+  place_first [] h e n = absurd (omega arith)
+  place_first (b ∷ l) {i = zero} h e n = sym (ap length (before_here b l e).0)
+  place_first (b ∷ l) {i = suc i} h e n = ap suc (place_first l (omega arith) e (λ k m. n (suc k) (omega arith))) ∙ sym (ap length (before_there b l (n 0 (omega arith))).0)
 
-    at : i < length l → drop i l ≡ get_or l i 0 ∷ drop (i + 1) l
-    at h = rw add-one (drop-cons l i 0 h)
+  pub place_none : (l : List ℕ) → ((k : ℕ) → k < length l → ¬ (get_or l k 0 ≡ s)) → length l ≤ length (before s l)
+  unfolding before
+  place_none [] n = omega arith
+  place_none (b ∷ l) n =
+      let rest = place_none l (λ k m. n (suc k) (omega arith)) in
+      omega (arith, ap length (before_there b l (n 0 (omega arith))).0)
 
-    pub place_found : PlaceTo → i < length l → get_or l i 0 ≡ s → i ≡ length (before s l)
-    place_found inv h e = omega (arith, inv.1, ap length (ap (before s) (at h) ∙ (before_here (get_or l i 0) (drop (i + 1) l) e).0))
-
-    pub place_next : PlaceTo → i < length l → ¬ (get_or l i 0 ≡ s) → (i + 1 ≤ length l) × (length (before s l) ≡ i + 1 + length (before s (drop (i + 1) l)))
-    place_next inv h n = (omega arith, omega (arith, inv.1, ap length (ap (before s) (at h) ∙ (before_there (get_or l i 0) (drop (i + 1) l) n).0)))
-
-    pub place_end : PlaceTo → length l ≤ i → i ≡ length (before s l)
-    unfolding before
-    place_end inv h = omega (arith, inv.1, ap (λ (x : List ℕ). length (before s x)) (drop_of_length-le l h))
-
--- Bytes that begin with others: the loop has come to place i
-
-module _ (xs l : List ℕ) (i : ℕ) where
-  pub starts_end : length xs ≤ i → starts (drop i xs) (drop i l) ≡ true
-  unfolding starts
-  starts_end h = ap (λ (x : List ℕ). starts x (drop i l)) (drop_of_length-le xs h)
-
-  pub starts_short : i < length xs → length l ≤ i → starts (drop i xs) (drop i l) ≡ false
-  unfolding starts
-  starts_short h k = ap₂ starts (drop-cons xs i 0 h) (drop_of_length-le l k)
-
-  pub starts_not : i < length xs → i < length l → ¬ (get_or l i 0 ≡ get_or xs i 0) → starts (drop i xs) (drop i l) ≡ false
-  unfolding starts
-  starts_not h k n = ap₂ starts (drop-cons xs i 0 h) (drop-cons l i 0 k) ∙ ap {B = Bool} (λ b. b && starts (drop (suc i) xs) (drop (suc i) l)) (ne_eqb (get_or l i 0) (get_or xs i 0) n)
-
-  pub starts_next : i < length xs → i < length l → get_or l i 0 ≡ get_or xs i 0 → starts (drop i xs) (drop i l) ≡ starts (drop (i + 1) xs) (drop (i + 1) l)
-  unfolding starts
-  starts_next h k e =
-      ap₂ starts (drop-cons xs i 0 h) (drop-cons l i 0 k) ∙ ap {B = Bool} (λ b. b && starts (drop (suc i) xs) (drop (suc i) l)) (eq-eqb (get_or l i 0) (get_or xs i 0) e)
-      ∙ sym (ap (λ (n : ℕ). starts (drop n xs) (drop n l)) (add-one i))
+-- bytes that begin with others, as the library tests it
+pub starts_same : (xs l : List ℕ) → pointwise nat_eq (take (length xs) l) xs ≡ starts xs l
+unfolding starts
+starts_same [] l = refl
+starts_same (x ∷ xs) [] = refl
+starts_same (x ∷ xs) (b ∷ l) = ap {B = Bool} (λ t. eqb b x && t) (starts_same xs l)

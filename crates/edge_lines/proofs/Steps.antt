@@ -8,7 +8,7 @@ use native.Mathlib.Omega.{arith}
 use borrow.Author.Tests.{le-ltb, lt-ltb}
 use lib.Dec.{T}
 use lib.ListN.{drop, drop_of_length-le, get_or, length, length-drop, take}
-use lib.Seq.{drop-cons, drop-drop, length-take-le, take_all}
+use lib.Seq.{drop-cons, drop-drop, take_all}
 use Rattle.lists.specs.Lists.{member}
 use Rattle.lists.proofs.Members.{◌∈◌, member_in, member_out}
 use Rattle.lists.proofs.Tests.{T_true}
@@ -50,19 +50,13 @@ module _ (text : List ℕ) (at : ℕ) (inside : at < length text) {part : List �
   place_is : place ≡ length (before line_feed (drop at text))
   place_is = first ∙ ap (λ (l : List ℕ). length (before line_feed l)) part_is
 
-  pub step_stray : length text - at ≤ place → line other (length text) ≡ step_at text at
-  step_stray h = sym (step_inside text at inside ∙ line_stray text at (omega (arith, place_is, length-drop at text)))
+  pub step_stray : length part ≤ place → line other (length text) ≡ step_at text at
+  step_stray h = sym (step_inside text at inside ∙ line_stray text at (omega (arith, place_is, ap length part_is)))
 
-  pub step_found : place < length text - at → {l : Line} → l ≡ held_line (line_of (take place part)) → line l (at + place + 1) ≡ step_at text at
+  pub step_found : place < length part → {l : Line} → l ≡ held_line (line_of (take place part)) → line l (at + place + 1) ≡ step_at text at
   step_found h {l} e =
       ap₂ line (e ∙ ap₂ (λ (n : ℕ) (b : List ℕ). held_line (line_of (take n b))) place_is part_is) (ap (λ (n : ℕ). at + n + 1) place_is)
-      ∙ sym (step_inside text at inside ∙ line_found text at (omega (arith, place_is, length-drop at text)))
-
--- the line's bytes within what is left
-pub line_part : (text : List ℕ) (at : ℕ) {end : ℕ} → end < length text - at → end ≡ length (take end (take (length text - at) (drop at text)))
-line_part text at {end} h =
-    let rest : length (take (length text - at) (drop at text)) ≡ length text - at = length-take-le (length text - at) (drop at text) (simp length-drop (omega arith)) in
-    sym (length-take-le end (take (length text - at) (drop at text)) (omega arith))
+      ∙ sym (step_inside text at inside ∙ line_found text at (omega (arith, place_is, ap length part_is)))
 
 -- What a step says of the lines: it goes on within the text, and the line is the first of those that are left
 pub record Advanced (text : List ℕ) (at next : ℕ) (l : Line) : Type 0 where

@@ -1,34 +1,20 @@
-//! The lines of a DIMACS edge file, one by one: a cursor, which is a place of the text, answers the line that begins there and the cursor behind it.
-//! Numbers are held at a cap, which is above every limit of a network file and above the lines of any text. What the types below stand for is said in
-//! specs/Numbers.antt, and how a reader meets a text in specs/Reading.antt.
+//! The lines of a DIMACS edge file, one by one: a cursor, which is a place of the text, answers the line that begins there and the cursor behind it, and
+//! `Lines` goes over all of them. Numbers are held at a cap, which is above every limit of a network file and above the lines of any text. What the types
+//! below stand for is said in specs/Numbers.antt, and how a reader meets a text in specs/Reading.antt.
 #![tactic(auto)]
 
-ghost use Rattle.std.specs.Prelude.{◌≡◌, ◌*◌, ◌+◌, ◌-◌, ◌≤◌, min, length};
-ghost use Rattle.edge_file.specs.Decimal.{is_digit, leads, number_of};
+ghost use Rattle.std.specs.Prelude.{◌≡◌, ℕ, ◌*◌, ◌+◌, ◌-◌, ◌<◌, ◌≤◌, ◌≢◌, min, length, slice_index, MatchOption};
+ghost use Rattle.std.specs.Iterator.{YieldsFirstBy, item_count};
+ghost use Rattle.edge_file.specs.Decimal.{leads, number_of};
 ghost use Rattle.edge_file.specs.Text.{is_comment, line_of};
-ghost use Rattle.edge_lines.specs.Numbers.{line_in, number_in, step_in, two_in};
-ghost use Rattle.edge_lines.specs.Reading.{before, cap, edge_from, held_at, held_line, held_two, problem_from, starts, step_at, two_of};
+ghost use Rattle.edge_lines.specs.Numbers.{line_in, lines_left, number_in, step_in, two_in};
+ghost use Rattle.edge_lines.specs.Reading.{cap, held_at, held_line, held_lines, held_two, step_at, two_of};
 
-/// Numbers are held at this cap: with one digit more, one up to a tenth of it stays below 2 to the power 64.
+/// Numbers are held at this cap, the greatest number of 64 bits that ends in 9.
 const CAP: u64 = 18446744073709551609;
 
-// A number as it was read: whether the bytes write one, and its value, held at the cap.
-#[derive(Clone, Copy)]
-struct Number {
-    some: bool,
-    value: u64,
-}
-
-// Two numbers as they were read: whether the bytes write two, parted by a space, and their values, held at the cap.
-#[derive(Clone, Copy)]
-struct Two {
-    some: bool,
-    first: u64,
-    second: u64,
-}
-
 /// A line as it was read, with its numbers held at the cap.
-#[derive(Clone, Copy)]
+#[derive(Clone, Copy, Debug, PartialEq, Eq)]
 pub enum TextLine {
     Comment,
     Problem { nodes: u64, count: u64 },
@@ -37,23 +23,16 @@ pub enum TextLine {
 }
 
 /// A place of a text, where a line begins.
-#[derive(Clone, Copy)]
+#[derive(Clone, Copy, Debug, PartialEq, Eq)]
 pub struct Cursor {
     pub at: usize,
 }
 
-/// What a cursor finds: a line, and the cursor behind it, or the text's end.
-#[derive(Clone, Copy)]
-pub enum Step {
-    Line { line: TextLine, next: Cursor },
-    Done,
-}
-
-// Whether a byte is a digit.
-fn is_digit(b: u8) -> bool
-    ensures { result ≡ is_digit b }
-{
-    if b < 48 { false } else { b <= 57 }
+/// The lines of a text, one after the other.
+#[derive(Clone, Copy, Debug)]
+pub struct Lines<'a> {
+    pub text: &'a [u8],
+    pub cursor: Cursor,
 }
 
 // The value with one digit more, held at the cap.
@@ -61,161 +40,66 @@ fn next_value(value: u64, digit: u8) -> u64
     requires { (48 ≤ digit) × (digit ≤ 57) }
     ensures { result ≡ min cap (value * 10 + (digit - 48)) }
 {
-    if value <= 1844674407370955160 {
-        value * 10 + ((digit - 48) as u64)
-    } else {
-        CAP
-    }
+    value
+        .saturating_mul(10)
+        .saturating_add(u64::from(digit - b'0'))
+        .min(CAP)
 }
 
 // Whether there is a digit, and only '0' alone begins with '0'.
 fn begins_well(bytes: &[u8]) -> bool
     ensures { result ≡ leads bytes.now }
 {
-    let n = bytes.len();
-    if n == 0 {
-        return false;
+    match bytes {
+        [] => false,
+        [_] => true,
+        [first, ..] => *first != b'0',
     }
-    if n == 1 {
-        return true;
-    }
-    bytes[0] != 48
 }
 
 // The number that the bytes write, if they do.
-fn number_of(bytes: &[u8]) -> Number
+fn number_of(bytes: &[u8]) -> Option<u64>
     ensures { number_in result ≡ held_at (number_of bytes.now) }
 {
-    let mut value: u64 = 0;
-    let mut i: usize = 0;
     if !begins_well(bytes) {
-        return Number {
-            some: false,
-            value: 0,
-        };
+        return None;
     }
-    while i < bytes.len() {
-        let b = bytes[i];
-        if !is_digit(b) {
-            return Number {
-                some: false,
-                value: 0,
-            };
+    let mut value = 0;
+    for &b in bytes {
+        if !b.is_ascii_digit() {
+            return None;
         }
         value = next_value(value, b);
-        i += 1;
     }
-    Number {
-        some: true,
-        value: value,
-    }
+    Some(value)
 }
 
-// The place of the first byte of a kind; the length where there is none.
-fn first_place(bytes: &[u8], kind: u8) -> usize
-    ensures { result ≡ length (before kind bytes.now) }
+// The place of the first byte of a kind, if there is one.
+fn first_place(bytes: &[u8], kind: u8) -> Option<usize>
+    ensures { MatchOption result ((k : ℕ) → k < length bytes.now → slice_index bytes.now k ≢ kind)
+        (λ i. (i < length bytes.now) × (slice_index bytes.now i ≡ kind) × ((k : ℕ) → k < i → slice_index bytes.now k ≢ kind)) }
 {
-    let mut i: usize = 0;
-    while i < bytes.len() {
-        if bytes[i] == kind {
-            return i;
-        }
-        i += 1;
-    }
-    i
+    bytes.iter().position(|&b| b == kind)
 }
 
-// Whether the bytes begin with others.
-fn begins_with(bytes: &[u8], others: &[u8]) -> bool
-    ensures { result ≡ starts others.now bytes.now }
-{
-    let mut i: usize = 0;
-    while i < others.len() {
-        if bytes.len() <= i {
-            return false;
-        }
-        if bytes[i] != others[i] {
-            return false;
-        }
-        i += 1;
-    }
-    true
-}
-
-// The two numbers that the bytes write, if they do.
-fn two_numbers(bytes: &[u8]) -> Two
+// The two numbers that the bytes write, parted by a space, if they do.
+fn two_numbers(bytes: &[u8]) -> Option<(u64, u64)>
     ensures { two_in result ≡ held_two (two_of bytes.now) }
 {
-    let at = first_place(bytes, 32);
-    let n = bytes.len();
-    if n <= at {
-        return Two {
-            some: false,
-            first: 0,
-            second: 0,
-        };
-    }
-    let next = at + 1;
-    let first = number_of(&bytes[..at]);
-    let second = number_of(&bytes[next..]);
-    if first.some {
-        Two {
-            some: second.some,
-            first: first.value,
-            second: second.value,
-        }
-    } else {
-        Two {
-            some: false,
-            first: 0,
-            second: 0,
-        }
-    }
+    let space = first_place(bytes, b' ')?;
+    let first = number_of(&bytes[..space])?;
+    let second = number_of(&bytes[space + 1..])?;
+    Some((first, second))
 }
 
 // Whether a line is `c` alone, or before a space.
 fn is_comment(bytes: &[u8]) -> bool
     ensures { result ≡ is_comment bytes.now }
 {
-    let n = bytes.len();
-    if n == 0 {
-        return false;
-    }
-    if n == 1 {
-        return bytes[0] == 99;
-    }
-    if bytes[0] == 99 {
-        bytes[1] == 32
-    } else {
-        false
-    }
-}
-
-// An edge line of two numbers, if there are two.
-fn edge_line(two: Two) -> TextLine
-    ensures { line_in result ≡ edge_from (two_in two) }
-{
-    if two.some {
-        TextLine::Edge {
-            one: two.first,
-            two: two.second,
-        }
-    } else {
-        TextLine::Other
-    }
-}
-
-// A `p` line of two numbers, if there are two.
-fn problem_line(two: Two) -> TextLine
-    ensures { line_in result ≡ problem_from (two_in two) }
-{
-    if two.some {
-        TextLine::Problem {
-            nodes: two.first,
-            count: two.second,
-        }
-    } else {
-        TextLine::Other
+    match bytes {
+        [] => false,
+        [first] => *first == b'c',
+        [first, second, ..] => *first == b'c' && *second == b' ',
     }
 }
 
@@ -226,39 +110,62 @@ fn line_of(bytes: &[u8]) -> TextLine
     if is_comment(bytes) {
         return TextLine::Comment;
     }
-    if begins_with(bytes, b"e ") {
-        let two = two_numbers(&bytes[2..]);
-        return edge_line(two);
+    if let Some(rest) = bytes.strip_prefix(b"e ") {
+        return match two_numbers(rest) {
+            Some((one, two)) => TextLine::Edge { one, two },
+            None => TextLine::Other,
+        };
     }
-    if begins_with(bytes, b"p edge ") {
-        let two = two_numbers(&bytes[7..]);
-        return problem_line(two);
+    if let Some(rest) = bytes.strip_prefix(b"p edge ") {
+        return match two_numbers(rest) {
+            Some((nodes, count)) => TextLine::Problem { nodes, count },
+            None => TextLine::Other,
+        };
     }
     TextLine::Other
 }
 
 impl Cursor {
-    /// The line that begins here, and the cursor behind it; a rest without a line feed is a line of no form, and the last.
-    pub fn step(self, text: &[u8]) -> Step
+    /// The line that begins here, and the cursor behind it, if the text goes on; a rest without a line feed is a line of no form, and the last.
+    pub fn step(self, text: &[u8]) -> Option<(TextLine, Cursor)>
         ensures { step_in result ≡ step_at text.now self.at }
     {
         let at = self.at;
         let n = text.len();
         if n <= at {
-            return Step::Done;
+            return None;
         }
         let rest = &text[at..];
-        let end = first_place(rest, 10);
-        if n - at <= end {
-            return Step::Line {
-                line: TextLine::Other,
-                next: Cursor { at: n },
-            };
-        }
+        let Some(end) = first_place(rest, b'\n') else {
+            return Some((TextLine::Other, Cursor { at: n }));
+        };
         let line = line_of(&rest[..end]);
-        Step::Line {
-            line: line,
-            next: Cursor { at: at + end + 1 },
+        Some((line, Cursor { at: at + end + 1 }))
+    }
+}
+
+impl<'a> Lines<'a> {
+    /// The lines of a text, from the first on.
+    pub fn new(text: &'a [u8]) -> Self
+        ensures { lines_left result ≡ held_lines text.now }
+    {
+        Lines {
+            text,
+            cursor: Cursor { at: 0 },
         }
+    }
+}
+
+impl Iterator for Lines<'_> {
+    type Item = TextLine;
+
+    ghost next_gives = { YieldsFirstBy line_in lines_left };
+
+    ghost remaining = { item_count lines_left };
+
+    fn next(&mut self) -> Option<TextLine> {
+        let (line, next) = self.cursor.step(self.text)?;
+        self.cursor = next;
+        Some(line)
     }
 }

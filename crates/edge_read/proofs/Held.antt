@@ -16,7 +16,7 @@ use Rattle.network_file.specs.File.{ends_sound, within}
 use Rattle.edge_file.specs.Dimacs.{edge_file, edges_checks, row_of}
 use Rattle.edge_file.specs.Text.{Edges, Ends, Line, comment, cons_ends, cons_first, edge, edges_alone, edges_by, edges_in, edges_with, is_content, line_feed, lines_in, lines_of, other, parts_by, problem}
 use Rattle.edge_file.proofs.Dimacs.{EdgesMet, read_long}
-use Rattle.edge_lines.specs.Reading.{cap, held_ends, held_line}
+use Rattle.edge_lines.specs.Reading.{cap, held_ends, held_line, held_lines}
 
 -- What held lines say
 
@@ -167,3 +167,6 @@ lines_short (p ∷ q ∷ ps) h = omega (arith, lines_short (q ∷ ps) (omega ari
 pub lines_few : (text : List ℕ) → length (lines_of text) ≤ length text
 unfolding lines_of
 lines_few text = let (least, long) = parts_long line_feed text in omega (arith, lines_short (parts_by line_feed text) least)
+
+pub held_few : (text : List ℕ) → length (held_lines text) ≤ length text
+held_few text = omega (arith, length-map (lines_of text) held_line, lines_few text)

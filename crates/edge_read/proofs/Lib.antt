@@ -1,7 +1,5 @@
 pub mod Files
-pub mod Head
 pub mod Held
 pub mod Reading
 pub mod Scans
-pub mod Tests
 pub mod Turns

@@ -1,14 +1,30 @@
 -- What the types of the code stand for: what the lines have said so far, and the answer in document 02's terms.
-use Rattle.std.specs.Prelude.{ℕ}
-use Rattle.checks.specs.Checks.{Outcome, answered, refused}
+use Rattle.std.specs.Prelude.{ℕ, is_some, Option, None, Some, Result}
+use Rattle.checks.specs.Checks.{Outcome}
+use Rattle.refusals.specs.Refusals.{outcome_of}
+use Rattle.refusals.specs.declared.Refusal.{Refusal}
 use Rattle.edge_read.specs.Scan.{Scan}
-use Rattle.edge_read.specs.declared.ReadAnswer.{ReadAnswer}
-use Rattle.edge_read.specs.declared.ReadAnswer.TheVariants as answer
+use Rattle.edge_read.specs.declared.Problem.{Problem}
 use Rattle.edge_read.specs.declared.Tally.{Tally}
 
-abbrev pub scan_of : Tally → Scan
-scan_of t = record { bad = t.bad; seen = t.seen; nodes = t.nodes; count = t.count; edges = t.edges; sound = t.sound }
+-- the `p` line's numbers, where it was met
+abbrev nodes_in : Option Problem → ℕ
+nodes_in None = 0
+nodes_in (Some p) = p.nodes
 
-abbrev pub read_of : ReadAnswer → Outcome ℕ
-read_of (answer.Length length) = answered length
-read_of (answer.Refused e) = refused e
+abbrev count_in : Option Problem → ℕ
+count_in None = 0
+count_in (Some p) = p.count
+
+abbrev pub scan_of : Tally → Scan
+scan_of t = record {
+  bad = t.bad;
+  seen = is_some t.problem;
+  nodes = nodes_in t.problem;
+  count = count_in t.problem;
+  edges = t.edges;
+  sound = t.sound;
+}
+
+abbrev pub read_of : Result ℕ Refusal → Outcome ℕ
+read_of = outcome_of (λ length. length)

@@ -3,7 +3,7 @@
 //! what the types below stand for.
 #![tactic(auto)]
 
-ghost use Rattle.std.specs.Prelude.{◌≡◌, ◌&&◌, ◌||◌, ◌+◌, ◌<◌, ◌≤◌, length};
+ghost use Rattle.std.specs.Prelude.{◌≡◌, ◌&&◌, ◌+◌, ◌<◌, ◌≤◌, IfOk, MatchOption, false, length, not, true};
 ghost use Rattle.lists.specs.Lists.{concat_map};
 ghost use Rattle.checks.specs.Checks.{checked};
 ghost use Rattle.edge_file.specs.Dimacs.{dimacs_call};
@@ -12,99 +12,117 @@ ghost use Rattle.edge_lines.specs.Reading.{held_lines};
 ghost use Rattle.network_file.specs.File.{within};
 ghost use Rattle.printout.specs.Text.{filled, put};
 ghost use Rattle.edge_read.specs.Answers.{read_of, scan_of};
+ghost use Rattle.edge_read.specs.declared.Sizes.{Sizes};
+ghost use Rattle.refusals.specs.Refusals.{outcome_of};
 ghost use Rattle.edge_read.specs.Scan.{file_length, head_bytes, line_bytes, scan_checks, scan_line, scan_lines, scan_start, sound_ends};
 
-use edge_lines::{Cursor, Step, TextLine};
+use edge_lines::{Lines, TextLine};
+use refusals::{Refusal, check};
 
-/// The answer of reading: the file's length in bytes, or the number of the check that is not met.
-#[derive(Clone, Copy)]
-pub enum ReadAnswer {
-    Length(u32),
-    Refused(u8),
-}
-
-// What the lines have said so far: whether one was of no form or in the wrong place, whether the `p` line was met, its numbers, how many edge lines, and whether
-// their ends are nodes and differ.
-#[derive(Clone, Copy)]
-struct Tally {
-    bad: bool,
-    seen: bool,
+// The numbers of the `p` line.
+#[derive(Clone, Copy, Debug, PartialEq, Eq)]
+struct Problem {
     nodes: u64,
     count: u64,
+}
+
+// What the lines have said so far: whether one was of no form or in the wrong place, the numbers of the `p` line if it was met, how many edge lines, and whether
+// their ends are nodes and differ.
+#[derive(Clone, Copy, Debug, PartialEq, Eq)]
+struct Tally {
+    bad: bool,
+    problem: Option<Problem>,
     edges: u64,
     sound: bool,
-}
-
-// One of two tests.
-fn either(a: bool, b: bool) -> bool
-    ensures { result ≡ (a || b) }
-{
-    if a { true } else { b }
-}
-
-// Both of two tests.
-fn both(a: bool, b: bool) -> bool
-    ensures { result ≡ (a && b) }
-{
-    if a { b } else { false }
 }
 
 // Whether two ends are nodes 1 to n that differ.
 fn ends_sound(n: u64, one: u64, two: u64) -> bool
     ensures { result ≡ sound_ends n one two }
 {
-    if one < 1 {
-        return false;
-    }
-    if n < one {
-        return false;
-    }
-    if two < 1 {
-        return false;
-    }
-    if n < two {
-        return false;
-    }
-    one != two
+    (1..=n).contains(&one) && (1..=n).contains(&two) && one != two
 }
 
-// The tally with one line more.
-fn with_line(t: Tally, line: TextLine) -> Tally
-    requires { t.edges < 18446744073709551615 }
-    ensures { (scan_of result ≡ scan_line (scan_of t) (line_in line)) × (result.edges ≤ t.edges + 1) }
-{
-    match line {
-        TextLine::Comment => t,
-        TextLine::Problem { nodes, count } => {
-            Tally {
-                bad: either(t.bad, t.seen),
-                seen: true,
-                nodes: nodes,
-                count: count,
-                edges: t.edges,
-                sound: t.sound,
-            }
+// The nodes and the rows of a file.
+#[derive(Clone, Copy, Debug, PartialEq, Eq)]
+struct Sizes {
+    n: u8,
+    m: u16,
+}
+
+impl Sizes {
+    // The length of the file.
+    fn length(self) -> u32
+        ensures { result ≡ file_length self.m }
+    {
+        10 + 8 * u32::from(self.m)
+    }
+}
+
+impl Problem {
+    // Whether both numbers are within a network file's limits.
+    fn is_sound(self) -> bool
+        ensures { result ≡ (within 2 32 self.nodes && within 0 256 self.count) }
+    {
+        (2..=32).contains(&self.nodes) && self.count <= 256
+    }
+}
+
+impl Tally {
+    // The tally with one line more.
+    fn with(self, line: TextLine) -> Tally
+        requires { self.edges < 18446744073709551615 }
+        ensures scanned { scan_of result ≡ scan_line (scan_of self) (line_in line) }
+        ensures few { result.edges ≤ self.edges + 1 }
+    {
+        match line {
+            TextLine::Comment => self,
+            TextLine::Problem { nodes, count } => Tally {
+                bad: self.bad || self.problem.is_some(),
+                problem: Some(Problem { nodes, count }),
+                ..self
+            },
+            TextLine::Edge { one, two } => match self.problem {
+                Some(problem) => Tally {
+                    edges: self.edges + 1,
+                    sound: self.sound && ends_sound(problem.nodes, one, two),
+                    ..self
+                },
+                None => Tally {
+                    bad: true,
+                    edges: self.edges + 1,
+                    sound: false,
+                    ..self
+                },
+            },
+            TextLine::Other => Tally { bad: true, ..self },
         }
-        TextLine::Edge { one, two } => {
-            Tally {
-                bad: either(t.bad, !t.seen),
-                seen: t.seen,
-                nodes: t.nodes,
-                count: t.count,
-                edges: t.edges + 1,
-                sound: both(t.sound, ends_sound(t.nodes, one, two)),
-            }
-        }
-        TextLine::Other => {
-            Tally {
-                bad: true,
-                seen: t.seen,
-                nodes: t.nodes,
-                count: t.count,
-                edges: t.edges,
-                sound: t.sound,
-            }
-        }
+    }
+
+    // The numbers of the `p` line, if each line is of a form and in its place.
+    fn formed(self) -> Option<Problem>
+        ensures { MatchOption result ((not self.bad && (scan_of self).seen) ≡ false)
+            (λ p. ((not self.bad && (scan_of self).seen) ≡ true) × (p.nodes ≡ (scan_of self).nodes) × (p.count ≡ (scan_of self).count)) }
+    {
+        if self.bad { None } else { self.problem }
+    }
+
+    // The sizes of the file, by the tally of a text and the places of the buffer, else the first check that is not met.
+    #[tactic(auto, unfolding(checks::specs::Checks::checked, checks::specs::Checks::first_unmet, crate::specs::Scan::scan_checks))]
+    fn checked(self, places: usize) -> Result<Sizes, Refusal>
+        ensures outcome { outcome_of (λ (s : Sizes). file_length s.m) result ≡ checked (scan_checks (scan_of self) places) (file_length self.edges) }
+        ensures sizes { IfOk result (λ s. (s.n ≡ (scan_of self).nodes) × (s.m ≡ self.edges)) }
+    {
+        let problem = self.formed().ok_or(Refusal::WrongLine)?;
+        check(self.edges == problem.count, Refusal::WrongEdgeCount)?;
+        check(problem.is_sound(), Refusal::WrongSizes)?;
+        check(self.sound, Refusal::WrongEnds)?;
+        let sizes = Sizes {
+            n: problem.nodes as u8,
+            m: self.edges as u16,
+        };
+        check(sizes.length() as usize <= places, Refusal::ShortBuffer)?;
+        Ok(sizes)
     }
 }
 
@@ -114,76 +132,32 @@ fn scan(text: &[u8]) -> Tally
 {
     let mut tally = Tally {
         bad: false,
-        seen: false,
-        nodes: 0,
-        count: 0,
+        problem: None,
         edges: 0,
         sound: true,
     };
-    let mut cursor = Cursor { at: 0 };
-    loop {
-        let step = cursor.step(text);
-        let Step::Line { line, next } = step else {
-            return tally;
-        };
-        tally = with_line(tally, line);
-        cursor = next;
+    for line in Lines::new(text) {
+        tally = tally.with(line);
     }
-}
-
-// Whether both numbers of the `p` line are within a network file's limits.
-fn sizes_sound(nodes: u64, count: u64) -> bool
-    ensures { result ≡ (within 2 32 nodes && within 0 256 count) }
-{
-    if nodes < 2 {
-        return false;
-    }
-    if 32 < nodes {
-        return false;
-    }
-    count <= 256
-}
-
-// The checks, by the tally of a text and the places of the buffer; the answer where all are met is the file's length.
-fn outcome(t: Tally, places: usize) -> ReadAnswer
-    ensures { read_of result ≡ checked (scan_checks (scan_of t) places) (file_length t.edges) }
-{
-    let formed = both(!t.bad, t.seen);
-    let counted = t.edges == t.count;
-    if !formed {
-        return ReadAnswer::Refused(16);
-    }
-    if !counted {
-        return ReadAnswer::Refused(17);
-    }
-    if !sizes_sound(t.nodes, t.count) {
-        return ReadAnswer::Refused(3);
-    }
-    if !t.sound {
-        return ReadAnswer::Refused(6);
-    }
-    let length = 10 + t.edges as u32 * 8;
-    if places < length as usize {
-        return ReadAnswer::Refused(11);
-    }
-    ReadAnswer::Length(length)
+    tally
 }
 
 // Puts the file's first ten bytes into the buffer, as far as they fit; answers the place behind.
-fn put_head(buffer: &mut [u8], n: u64, m: u64) -> usize
-    requires { (n ≤ 32) × (m ≤ 256) }
-    ensures { filled buffer.new result ≡ put buffer.old 0 (head_bytes n m) }
+fn put_head(buffer: &mut [u8], sizes: Sizes) -> usize
+    requires { sizes.m ≤ 256 }
+    ensures { filled buffer.new result ≡ put buffer.old 0 (head_bytes sizes.n sizes.m) }
 {
-    let follow = 5 + m * 8;
+    let [follow_high, follow_low] = (5 + 8 * sizes.m).to_be_bytes();
+    let [rows_high, rows_low] = sizes.m.to_be_bytes();
     let head = [
         1,
         0,
         0,
-        (follow / 256 % 256) as u8,
-        (follow % 256) as u8,
-        (n % 256) as u8,
-        (m / 256 % 256) as u8,
-        (m % 256) as u8,
+        follow_high,
+        follow_low,
+        sizes.n,
+        rows_high,
+        rows_low,
         1,
         0,
     ];
@@ -194,15 +168,11 @@ fn put_head(buffer: &mut [u8], n: u64, m: u64) -> usize
 fn put_line(buffer: &mut [u8], at: usize, line: TextLine) -> usize
     ensures { filled buffer.new result ≡ put buffer.old at (line_bytes (line_in line)) }
 {
-    match line {
-        TextLine::Comment => at,
-        TextLine::Problem { nodes: _, count: _ } => at,
-        TextLine::Edge { one, two } => {
-            let row = [(one % 256) as u8, (two % 256) as u8, 0, 0, 0, 0, 0, 1];
-            printout::text(buffer, at, &row)
-        }
-        TextLine::Other => at,
-    }
+    let TextLine::Edge { one, two } = line else {
+        return at;
+    };
+    let row = [(one % 256) as u8, (two % 256) as u8, 0, 0, 0, 0, 0, 1];
+    printout::text(buffer, at, &row)
 }
 
 // The second pass: puts the rows of all edge lines of a text into the buffer, as far as they fit.
@@ -210,29 +180,18 @@ fn put_rows(text: &[u8], buffer: &mut [u8], from: usize) -> usize
     ensures { filled buffer.new result ≡ put buffer.old from (concat_map line_bytes (held_lines text.now)) }
 {
     let mut at = from;
-    let mut cursor = Cursor { at: 0 };
-    loop {
-        let step = cursor.step(text);
-        let Step::Line { line, next } = step else {
-            return at;
-        };
+    for line in Lines::new(text) {
         at = put_line(buffer, at, line);
-        cursor = next;
     }
+    at
 }
 
-/// Reads the text into a network file from the first place of the buffer on; bytes past it keep their content.
-pub fn read(text: &[u8], buffer: &mut [u8]) -> ReadAnswer
+/// Reads the text into a network file from the first place of the buffer on, and answers its length in bytes; bytes past it keep their content.
+pub fn read(text: &[u8], buffer: &mut [u8]) -> Result<u32, Refusal>
     ensures { record { outcome = read_of result; buffers = buffer.new } ≡ dimacs_call text.now buffer.old }
 {
-    let tally = scan(text);
-    let answer = outcome(tally, buffer.len());
-    match answer {
-        ReadAnswer::Length(length) => {
-            let at = put_head(buffer, tally.nodes, tally.edges);
-            put_rows(text, buffer, at);
-            ReadAnswer::Length(length)
-        }
-        ReadAnswer::Refused(number) => ReadAnswer::Refused(number),
-    }
+    let sizes = scan(text).checked(buffer.len())?;
+    let at = put_head(buffer, sizes);
+    put_rows(text, buffer, at);
+    Ok(sizes.length())
 }

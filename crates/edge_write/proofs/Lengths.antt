@@ -1,5 +1,5 @@
--- How long the text is: an edge line (`line_long`), the edge lines of the first rows (`Counted`, with its start, turn and end), and the whole (`text_long`).
--- Numbers have at most three digits, so that an edge line has at most ten bytes.
+-- How long the text is: an edge line (`line_long`), the edge lines of the first rows (`Counted`, with its start and turn), and the whole (`text_long`).
+-- An edge line has at most ten bytes.
 use mathlib.Core.Path.{◌∙◌, ◌≡◌, ap, ap₂, sym}
 use mathlib.Core.List.{List, [], ◌++◌, ◌∷◌}
 use Prim.Native.Nat.{◌*◌, ◌+◌, ◌<◌, ◌≤◌, ℕ}
@@ -10,7 +10,6 @@ use Rattle.network_file.specs.File.{Sizes, network_of, sizes_of}
 use Rattle.printout.specs.Text.{decimal_of}
 use Rattle.edge_file.specs.Dimacs.{ends_in, text_in}
 use Rattle.edge_file.specs.Text.{Ends, problem_line, with_feed}
-use Rattle.edge_file.proofs.Decimal.{decimal_few}
 use Rattle.edge_write.specs.Lines.{edge_lines}
 use Rattle.edge_write.proofs.Lines.{whole_line, lines_more, lines_none, text_lines}
 
@@ -20,10 +19,6 @@ two_long a b = omega (arith, length-append (a ++ (32 ∷ b)) (10 ∷ []), length
 
 pub line_long : (e : Ends) → length (whole_line e) ≡ 4 + length (decimal_of e.one) + length (decimal_of e.two)
 line_long e = omega (arith, two_long (decimal_of e.one) (decimal_of e.two))
-
--- at most ten bytes
-pub line_short : (e : Ends) → e.one < 256 → e.two < 256 → length (whole_line e) ≤ 10
-line_short e one two = omega (arith, line_long e, decimal_few e.one (omega arith), decimal_few e.two (omega arith))
 
 problem_long : (n m : ℕ) → length (with_feed (problem_line n m)) ≡ 9 + length (decimal_of n) + length (decimal_of m)
 problem_long n m = omega (arith, two_long (decimal_of n) (decimal_of m))
@@ -39,22 +34,17 @@ module _ {w : Network} {m : ℕ} where
   counted_start = record { few = omega arith; short = omega arith; counts = sym (ap length (lines_none w)) }
 
   -- one line more, of a row's ends as they were read
-  pub counted_turn : {total r : ℕ} → Counted w m total r → r < m → m ≤ length w.rows → (e : Ends) → e ≡ ends_in (row_at w r) → e.one < 256 → e.two < 256
-      → (long : ℕ) → long ≡ length (whole_line e) → Counted w m (total + long) (r + 1)
-  counted_turn {total} {r} p more there e read one two long counted = record {
+  pub counted_turn : {total r : ℕ} → Counted w m total r → r < m → m ≤ length w.rows → (e : Ends) → e ≡ ends_in (row_at w r) → {long : ℕ} → long ≡ length (whole_line e)
+      → long ≤ 10 → Counted w m (total + long) (r + 1)
+  counted_turn {total} {r} p more there e read {long} counted few = record {
     few = omega arith;
-    short = omega (arith, p.short, line_short e one two);
+    short = omega (arith, p.short);
     counts =
         ap₂ (λ (k l : ℕ). k + l) p.counts counted
         ∙ sym (length-append (edge_lines w r) (whole_line e))
         ∙ ap (λ (d : Ends). length (edge_lines w r ++ whole_line d)) read
         ∙ ap length (sym (lines_more w r (omega arith)));
   }
-
-  pub counted_end : {total r : ℕ} → Counted w m total r → m ≤ r → total ≡ length (edge_lines w m)
-  counted_end {total} {r} p all =
-      let same : r ≡ m = omega (arith, p.few) in
-      p.counts ∙ ap (λ (k : ℕ). length (edge_lines w k)) same
 
 pub text_long : (f : List ℕ) (s : Sizes) → s ≡ sizes_of f → length (text_in f) ≡ 9 + length (decimal_of s.n) + length (decimal_of s.m) + length (edge_lines (network_of f) s.m)
 text_long f s are =

@@ -1,4 +1,4 @@
--- Lines put into a buffer: a word and two numbers (`line_put`), the edge lines of the first rows (`Rowed`, with its start, turn and end), and the whole text, written over
+-- Lines put into a buffer: a word and two numbers (`line_put`), the edge lines of the first rows (`Rowed`, with its start and turn), and the whole text, written over
 -- the first places of a buffer that has room (`text_put`).
 use mathlib.Core.Path.{◌∙◌, ◌≡◌, ap, refl, sym}
 use mathlib.Core.List.{List, [], ◌++◌, ◌∷◌}
@@ -40,11 +40,6 @@ module _ {w : Network} {m : ℕ} {out : List ℕ} {from : ℕ} where
         ∙ ap (λ (d : Ends). put out from (edge_lines w r ++ whole_line d)) read
         ∙ ap (put out from) (sym (lines_more w r (omega arith)));
   }
-
-  pub rowed_end : {new : List ℕ} {at r : ℕ} → Rowed w m out from new at r → m ≤ r → filled new at ≡ put out from (edge_lines w m)
-  rowed_end {new} {at} {r} p all =
-      let same : r ≡ m = omega (arith, p.few) in
-      p.holds ∙ ap (λ (k : ℕ). put out from (edge_lines w k)) same
 
 pub text_put : (f : List ℕ) (s : Sizes) → s ≡ sizes_of f → (out : List ℕ) {between after : List ℕ} {at end : ℕ} → length (text_in f) ≤ length out
     → filled between at ≡ put out 0 (with_feed (problem_line s.n s.m)) → filled after end ≡ put between at (edge_lines (network_of f) s.m) → after ≡ over (text_in f) out

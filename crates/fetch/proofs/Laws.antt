@@ -1,11 +1,13 @@
 -- Laws of a fetch over the chart of a file: each way in which it ends (`fetched_short` to `fetched_met`). The code's rows are the entry for t (`entry_read`), which is a tree of the
 -- list where it meets its checks, so that the tree reached by t % s moves stands as many places behind it (`at_place`).
-use mathlib.Core.Path.{◌∙◌, ◌≡◌, ap, sym}
-use mathlib.Core.Bool.{false, true}
+use mathlib.Core.Path.{◌∙◌, ◌≡◌, ap, subst, sym}
+use mathlib.Core.Bool.{true}
 use mathlib.Core.Option.{none, some}
+use Rattle.std.specs.declared.option.Option as code
+use Rattle.std.specs.Prelude.{None, Some}
 use mathlib.Core.List.{List, [], ◌++◌}
 use Prim.Native.Nat.{◌%◌, ◌*◌, ◌+◌, ◌-◌, ◌/◌, ◌<◌, ◌≤◌, pred, suc, ℕ}
-use native.Mathlib.Nat.{div-lt_iff_lt-mul, le-div_iff_mul-le, mod-lt, suc-mul}
+use native.Mathlib.Nat.{div-lt_iff_lt-mul, le-div_iff_mul-le, suc-mul}
 use native.Mathlib.Omega.{arith}
 use lib.ListN.{drop, get_or, get_elem?, length, length-drop, length-take, take}
 use lib.Seq.{length-take-le, take-append_seam}
@@ -19,11 +21,9 @@ use Rattle.copies.specs.Copies.{copied}
 use Rattle.copies.proofs.Copies.{copied_all, copied_whole}
 use Rattle.fill.specs.Walkable.{Walkable}
 use Rattle.indexes.specs.Index.{entry_at, entry_checks, fetch_call}
-use Rattle.indexes.proofs.Checks.{entry_start, fetch_entry, fetch_none, fetch_short, spacing_least}
+use Rattle.indexes.proofs.Checks.{entry_start, fetch_entry, fetch_none, fetch_short}
 use Rattle.indexes.proofs.Fetch.{entry_listed, fetch_found, fetch_over}
-use Rattle.moves.proofs.Trees.{tree_none, tree_some}
 use Rattle.moves.specs.Tree.{tree_of}
-use Rattle.moves.specs.declared.Tree.{Tree}
 use Rattle.network_file.proofs.Accepted.{Accepted, accepted}
 use Rattle.network_file.specs.File.{network_of, within}
 use Rattle.operations.proofs.Files.{layouts_in_lem, node_count_lem, wide}
@@ -38,14 +38,6 @@ rows_kept places rows fits = ap (take (length rows)) (copied_whole places rows f
 -- entry e of the len / w whole ones ends within
 pub entry_ends : (e w len : ℕ) → ¬ (w ≡ 0) → e < len / w → e * w + w ≤ len
 entry_ends e w len p h = rw suc-mul at ((le-div_iff_mul-le {k = w} {x = suc e} {y = len} (omega arith)).0 h)
-
--- there are fewer moves than the spacing
-pub moves_few : (s t : ℕ) → ¬ (s ≡ 0) → t % s < s
-moves_few s t p = mod-lt t (omega arith)
-
--- a spacing in range is not 0
-pub spacing_some : (s : ℕ) → within 1 1000 s ≡ true → ¬ (s ≡ 0)
-spacing_some s right e = omega (arith, spacing_least s right)
 
 module _ {f c : List ℕ} (o : ChartOf f c) (w : ℕ) (read : w ≡ width_in c) where
   file : Accepted f
@@ -110,13 +102,13 @@ module _ {f c : List ℕ} (o : ChartOf f c) (w : ℕ) (read : w ≡ width_in c) 
           listed = entry_listed f o.met entry long (sym checks_are ∙ ok)
 
           -- the tree of these rows, and the one that is reached by so many moves
-          module _ (tree reached : Tree) (made : length rows ≤ 31 → tree_of (length rows) tree ≡ some rows)
-              (moved : (i : ℕ) → Walkable c → tree_of (width_in c) tree ≡ get_elem? (list_in c) i → tree_of (width_in c) reached ≡ get_elem? (list_in c) (i + t % s)) where
+          module _ (places : List ℕ) (reached : code.Option (List ℕ)) (made : length rows ≤ 31 → take (length rows) places ≡ rows)
+              (moved : (i : ℕ) → Walkable c → some (take (width_in c) places) ≡ get_elem? (list_in c) i → tree_of (width_in c) reached ≡ get_elem? (list_in c) (i + t % s)) where
             place : (i : ℕ) × (get_elem? (layouts_in f) i ≡ some entry)
             place = mem_at listed
 
-            made_is : tree_of (width_in c) tree ≡ some entry
-            made_is = ap (λ (n : ℕ). tree_of n tree) (sym (rows_long ∙ read)) ∙ made (rw rows_long width_few) ∙ ap some entry_read
+            made_is : take (width_in c) places ≡ entry
+            made_is = ap (λ (n : ℕ). take n places) (sym (rows_long ∙ read)) ∙ made (rw rows_long width_few) ∙ entry_read
 
             place_is : get_elem? (list_in c) place.0 ≡ some entry
             place_is = ap (λ (L : List (List ℕ)). get_elem? L place.0) (list_read o) ∙ place.1
@@ -124,32 +116,35 @@ module _ {f c : List ℕ} (o : ChartOf f c) (w : ℕ) (read : w ≡ width_in c) 
             at_place : tree_of w reached ≡ get_elem? (layouts_in f) (place.0 + t % s)
             at_place =
                 ap (λ (n : ℕ). tree_of n reached) read
-                ∙ moved place.0 (walk_given o (listed_tree o entry (at_mem (list_in c) place.0 place_is))) (made_is ∙ sym place_is)
+                ∙ moved place.0 (walk_given o (listed_tree o entry (at_mem (list_in c) place.0 place_is))) (ap some made_is ∙ sym place_is)
                 ∙ ap (λ (L : List (List ℕ)). get_elem? L (place.0 + t % s)) (list_read o)
 
-            pub fetched_ends : reached.some ≡ false → record { outcome = refused 26; buffers = buffer } ≡ fetch_call f s index t buffer
+            reached_is : {o : code.Option (List ℕ)} → reached ≡ o → tree_of w o ≡ get_elem? (layouts_in f) (place.0 + t % s)
+            reached_is e = subst (λ (o : code.Option (List ℕ)). tree_of w o ≡ get_elem? (layouts_in f) (place.0 + t % s)) e at_place
+
+            pub fetched_ends : reached ≡ None → record { outcome = refused 26; buffers = buffer } ≡ fetch_call f s index t buffer
             fetched_ends e = sym (fetch_over f o.met s right t buffer room_is index held_is place.0 place.1 past)
               where
                 past : length (layouts_in f) ≤ place.0 + t % s
-                past = none_past (layouts_in f) (place.0 + t % s) (tree_none w reached at_place e)
+                past = none_past (layouts_in f) (place.0 + t % s) (sym (reached_is e))
 
-            pub fetched_met : (after : List ℕ) → reached.some ≡ true → after ≡ copied buffer 0 reached.rows w
+            pub fetched_met : (after : List ℕ) {tree : List ℕ} → reached ≡ Some tree → after ≡ copied buffer 0 tree w
                 → record { outcome = answered (t % s); buffers = after } ≡ fetch_call f s index t buffer
-            fetched_met after e copies =
+            fetched_met after {tree} e copies =
                 ap (λ (l : List ℕ). record { outcome = answered (t % s); buffers = l }) (written ∙ ap (λ (l : List ℕ). over l buffer) (sym found.1))
                 ∙ sym (fetch_found f o.met s right t buffer room_is index held_is place.0 place.1 found.0)
               where
-                there : get_elem? (layouts_in f) (place.0 + t % s) ≡ some (take w reached.rows)
-                there = tree_some w reached at_place e
+                there : get_elem? (layouts_in f) (place.0 + t % s) ≡ some (take w tree)
+                there = sym (reached_is e)
 
-                found : (place.0 + t % s < length (layouts_in f)) × (get_or (layouts_in f) (place.0 + t % s) [] ≡ take w reached.rows)
+                found : (place.0 + t % s < length (layouts_in f)) × (get_or (layouts_in f) (place.0 + t % s) [] ≡ take w tree)
                 found = get_d_at (layouts_in f) (place.0 + t % s) [] there
 
-                size : length (take w reached.rows) ≡ w
-                size = part_length (layouts_in_lem f file) (take w reached.rows) (at_mem (layouts_in f) (place.0 + t % s) there) ∙ sym width_is
+                size : length (take w tree) ≡ w
+                size = part_length (layouts_in_lem f file) (take w tree) (at_mem (layouts_in f) (place.0 + t % s) there) ∙ sym width_is
 
-                written : after ≡ over (take w reached.rows) buffer
+                written : after ≡ over (take w tree) buffer
                 written =
-                    let all : w ≤ length reached.rows = omega (arith, size, length-take w reached.rows) in
-                    let end : 0 + w ≡ length (take w reached.rows) = omega (arith, size) in
-                    copies ∙ copied_all buffer 0 reached.rows w (omega (arith, room)) all ∙ ap (λ (n : ℕ). take w reached.rows ++ drop n buffer) end
+                    let all : w ≤ length tree = omega (arith, size, length-take w tree) in
+                    let end : 0 + w ≡ length (take w tree) = omega (arith, size) in
+                    copies ∙ copied_all buffer 0 tree w (omega (arith, room)) all ∙ ap (λ (n : ℕ). take w tree ++ drop n buffer) end

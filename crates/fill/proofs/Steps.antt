@@ -1,15 +1,16 @@
 -- What the walk answers is what stands next in the chart's list (`comes_after`), by a turn too (`comes_turned`), or first of all (`comes_first`); so from a start on
 -- (`begins_after`, `begins_first`).
 use mathlib.Core.Path.{◌∙◌, ◌≡◌, ap, refl, subst, sym}
-use mathlib.Core.Bool.{Bool, false, true}
 use mathlib.Core.Option.{Option, none, some}
+use Rattle.std.specs.declared.option.Option as code
+use Rattle.std.specs.Prelude.{IfSome, None, Some}
+use Rattle.std.proofs.lemmas.Option.{IfSome_then}
 use mathlib.Core.List.Memᴰ.{head as here}
 use mathlib.Core.List.{List, [], ◌∷◌, append-nil}
 use Prim.Native.Nat.{◌<◌, ◌≤◌, ℕ}
 use native.Mathlib.Omega.{arith}
 use lib.ListN.{get_elem?, length}
 use Rattle.lists.proofs.Members.{◌∈◌}
-use Rattle.lists.specs.Lists.{pick}
 use Rattle.chart.proofs.Charts.{Charts, small}
 use Rattle.chart.specs.Chart.{graph_in, list_in, musts_in, plant_in, width_in}
 use Rattle.graph.proofs.Growth.{rows_of, rows_of_length, start}
@@ -20,6 +21,7 @@ use Rattle.grow.proofs.Leads.{MustsLead}
 use Rattle.pages.proofs.TreePages.{Starts, next_behind, none_behind}
 use Rattle.pages.specs.Pages.{behind}
 use Rattle.paths.specs.Path.{plant_of}
+use Rattle.paths.specs.declared.Path.{Path}
 use Rattle.states.proofs.Beyond.{full_part}
 use Rattle.states.proofs.Full.{Full}
 use Rattle.states.proofs.With.{full_of_with, with_of, with_part_lem}
@@ -29,20 +31,16 @@ use Rattle.trail.specs.Trail.{TurnsTo, turned_by}
 use Rattle.trail.specs.declared.Turn.{Turn}
 use Rattle.walk.proofs.Behind.{after_beyond, first_none, first_some, last_path, next_path}
 use Rattle.walk.specs.Walk.{after_of, first_in, next_of}
-use Rattle.walk.specs.declared.Next.{Next}
 use Rattle.fill.specs.Walkable.{Begins, Comes, Walkable}
 
 -- the path that a turn makes of one
 abbrev pub turned : List ℕ → List Key → Turn → List Key
 turned c keys t = turned_by c (plant_in c) keys t.at t.row
 
--- what comes where there is something, and where there is nothing
-module _ (c : List ℕ) (b : Bool) (keys : List Key) (rows : Option (List ℕ)) where
-  pub comes_some : b ≡ true → Comes c (pick b (some keys) none) rows → (rows ≡ some (rows_of keys)) × Full (graph_in c) (start (graph_in c)) (musts_in c) keys
-  comes_some e h = rw e at h
-
-  pub comes_none : b ≡ false → Comes c (pick b (some keys) none) rows → rows ≡ none
-  comes_none e h = rw e at h
+-- and where there is no turn, none
+abbrev pub turned_or : List ℕ → List Key → code.Option Turn → Option (List Key)
+turned_or c keys (Some t) = some (turned c keys t)
+turned_or c keys None = none
 
 -- the trees with all must rows are a part of those of the graph, in its order
 pub list_part : (c : List ℕ) → Part (graph_in c) (list_in c)
@@ -73,13 +71,10 @@ module _ {c : List ℕ} (w : Walkable c) (keys : List Key) (full : Full (graph_i
         (after_beyond w.right keys full len ls e).full,
       )
 
-  pub comes_turned : (t : Turn) → TurnsTo c (plant_in c) keys t
-      → Comes c (pick t.some (some (turned c keys t)) none) (get_elem? (behind (rows_of keys) (list_in c)) 0)
-  comes_turned t to = rw (← by t.some refl) (comes_after (length keys) (omega (arith, full_long)))
-    where
-      by : (b : Bool) → t.some ≡ b → after_of c (plant_in c) keys (length keys) ≡ pick b (some (turned c keys t)) none
-      by false e = to.last e
-      by true e = to.next e
+  pub comes_turned : (turn : code.Option Turn) → TurnsTo c (plant_in c) keys turn
+      → Comes c (turned_or c keys turn) (get_elem? (behind (rows_of keys) (list_in c)) 0)
+  comes_turned (Some t) to = rw to.0 at (comes_after (length keys) (omega (arith, full_long)))
+  comes_turned None to = rw to at (comes_after (length keys) (omega (arith, full_long)))
 
 -- the first of all
 module _ {c : List ℕ} (right : Charts c) (lead : MustsLead c) where
@@ -97,7 +92,7 @@ module _ {c : List ℕ} (right : Charts c) (lead : MustsLead c) where
           (first_in_lem (list_part c) (rows_of keys) least, full)
 
   -- behind an empty start
-  pub begins_first : (n : Next) → plant_of n.path ≡ plant_in c → next_of n ≡ first_in c → (begin : List ℕ) → length begin ≤ 0 → Begins c begin n
+  pub begins_first : (n : code.Option Path) → IfSome n (λ path. plant_of path ≡ plant_in c) → next_of n ≡ first_in c → (begin : List ℕ) → length begin ≤ 0 → Begins c begin n
   begins_first n plant answer [] e = record { plant = plant; comes = rw answer comes_first }
   begins_first n plant answer (r ∷ rs) e = absurd (omega arith)
 
@@ -113,12 +108,12 @@ traced_full {c} w p m =
 
 -- behind one that is given
 pub begins_after : {c : List ℕ} → Walkable c → (begin : List ℕ) → 0 < length begin → Starts (list_in c) begin → {plant : ℕ} {keys : List Key} → plant ≡ plant_in c
-    → keys ≡ traced_in c begin → (n : Next) → plant_of n.path ≡ plant → (len : ℕ) → width_in c ≤ len → next_of n ≡ after_of c plant keys len → Begins c begin n
+    → keys ≡ traced_in c begin → (n : code.Option Path) → IfSome n (λ path. plant_of path ≡ plant) → (len : ℕ) → width_in c ≤ len → next_of n ≡ after_of c plant keys len → Begins c begin n
 begins_after w [] given starts plant_is keys_are n plant len all answer = absurd (omega arith)
 begins_after {c} w (r ∷ rs) given starts plant_is keys_are n plant len all answer =
     let (full, rows) = traced_full w (r ∷ rs) (starts given) in
     record {
-      plant = plant ∙ plant_is;
+      plant = IfSome_then n plant (λ path e. e ∙ plant_is);
       comes = rw (answer, plant_is, keys_are) (subst (λ (q : List ℕ). Comes c (after_of c (plant_in c) (traced_in c (r ∷ rs)) len) (get_elem? (behind q (list_in c)) 0)) (sym rows)
           (comes_after w (traced_in c (r ∷ rs)) full len all));
     }

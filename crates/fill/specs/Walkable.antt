@@ -1,6 +1,7 @@
 -- What filling a page is given: a chart that is right, of a graph with a node besides the plant, and with a tree in its list (`Walkable`), and what comes first
 -- behind a start (`Comes`, `Begins`); what the code answers (`filled_of`), and what filling comes to: a page filled with the trees that are left (`filled_by`).
-use Rattle.std.specs.Prelude.{◌≡◌, List, ◌<◌, ℕ}
+use Rattle.std.specs.Prelude.{IfSome, ◌≡◌, List, ◌<◌, ℕ}
+use Rattle.std.specs.declared.option.Option as code
 use Rattle.std.proofs.Math.Option.{Option, none, some}
 use Rattle.std.proofs.Math.ListN.{get_elem?}
 use Rattle.lists.proofs.Members.{◌∈◌}
@@ -12,9 +13,9 @@ use Rattle.graph.specs.Paths.{Key}
 use Rattle.operations.specs.Operations.{Paged}
 use Rattle.pages.specs.Pages.{more_after, page_after, page_count, rest_after}
 use Rattle.paths.specs.Path.{plant_of}
+use Rattle.paths.specs.declared.Path.{Path}
 use Rattle.states.proofs.Full.{Full}
 use Rattle.walk.specs.Walk.{next_of}
-use Rattle.walk.specs.declared.Next.{Next}
 use Rattle.fill.specs.declared.Filled.{Filled}
 
 -- the chart of a graph whose trees can be listed
@@ -30,9 +31,9 @@ Comes c none rows = rows ≡ none
 Comes c (some keys) rows = (rows ≡ some (rows_of keys)) × Full (graph_in c) (start (graph_in c)) (musts_in c) keys
 
 -- what comes first behind a start
-pub record Begins (c begin : List ℕ) (n : Next) : Type 0 where
-  pub plant : plant_of n.path ≡ plant_in c
-  pub comes : Comes c (next_of n) (get_elem? (rest_after (list_in c) begin) 0)
+pub record Begins (c begin : List ℕ) (next : code.Option Path) : Type 0 where
+  pub plant : IfSome next (λ path. plant_of path ≡ plant_in c)
+  pub comes : Comes c (next_of next) (get_elem? (rest_after (list_in c) begin) 0)
 
 -- the code's answer in document 01's terms
 abbrev pub filled_of : Filled → Paged

@@ -1,7 +1,6 @@
 -- What the lightest choice says of a node: too short or too heavy, it closes the node (`short`, `too_heavy`); whole, it is a tree inside the limits, or the node may be split at each of its rows
 -- (`settles`). On every input its rows are usable (`choice_on`).
 use mathlib.Core.Path.{◌∙◌, ◌≡◌, ap, subst, sym}
-use mathlib.Core.Bool.{true}
 use mathlib.Core.Logic.{⊎_elim}
 use mathlib.Core.Option.{none}
 use mathlib.Core.List.{List, [], ◌++◌, ◌∷◌, map}
@@ -20,7 +19,7 @@ use Rattle.lists.specs.Lists.{range, sort, sum}
 use Rattle.lists.proofs.Members.{◌∈◌, ◌⊆◌, filter_in, filter_out, range_out, take_out}
 use Rattle.lists.proofs.Orders.{sort_in, sort_out}
 use Rattle.lists.proofs.Ranges.{range_length}
-use Rattle.lists.proofs.Tests.{T_false, T_true, pick_elim}
+use Rattle.lists.proofs.Tests.{pick_elim}
 use Rattle.graph.specs.Graph.{Graph}
 use Rattle.costs.specs.Costs.{cost_of}
 use Rattle.costs.specs.Network.{Network}
@@ -41,8 +40,9 @@ use Rattle.weighing.specs.Weighing.{weights_in}
 use Rattle.room.specs.Room.{room_in}
 use Rattle.room.proofs.Heavy.{heavy}
 use Rattle.find.specs.declared.Judged.{Judged}
+use Rattle.find.specs.declared.Judged.TheVariants.{Closed, Open, Tree}
 use Rattle.find.specs.Find.{graph_in}
-use Rattle.find.specs.Nodes.{Given, Judges, Settles, rows_by}
+use Rattle.find.specs.Nodes.{Given, Judges, Settles, Usable, rows_by}
 
 -- a place of a range
 get_or_range : (from n i : ℕ) → i < n → get_or (range from n) i 0 ≡ from + i
@@ -145,7 +145,7 @@ module _ {firsts seconds : List ℕ} {nodes k : ℕ} {limits inc flags : List �
           (omega (arith, h, is_room, ap (λ (x : List ℕ). sum (map (λ r. get_or x r 0) (greedy g inc seq))) is_weights, ap (λ (x : List ℕ). sum (map (λ r. get_or weights r 0) x)) chosen_is))
 
       -- it is whole
-      module _ (full : length chosen ≡ need) {j : Judged} (s : Settles kinds k costs leads limits inc chosen j) where
+      module _ (full : length chosen ≡ need) where
         all_is : take 31 (inc ++ chosen) ≡ inc ++ greedy g inc seq
         all_is = take_all 31 (inc ++ chosen) (omega (arith, length-append inc chosen, full, given.lacks, given.tables.small)) ∙ ap (λ (x : List ℕ). inc ++ x) chosen_is
 
@@ -156,20 +156,14 @@ module _ {firsts seconds : List ℕ} {nodes k : ℕ} {limits inc flags : List �
         all_low r m = ⊎_elim (inc_low r) (λ i. row_low r (us_lie r (seq_us r (greedy_from g seq inc r i)))) (append_cases inc m)
 
         -- the test of the code is that of the network
-        same_test : j.found ≡ inside lim (cost_of w (inc ++ greedy g inc seq))
-        same_test = s.tested ∙ ap (λ (x : List ℕ). inside limits (vector_in kinds k costs leads x)) all_is
+        same_test : inside limits (vector_in kinds k costs leads (take 31 (inc ++ chosen))) ≡ inside lim (cost_of w (inc ++ greedy g inc seq))
+        same_test = ap (λ (x : List ℕ). inside limits (vector_in kinds k costs leads x)) all_is
             ∙ inside_table kinds k costs leads (inc ++ greedy g inc seq) all_low given.tables.few_criteria four limits whole given.node.open_past_lem
 
-        pub settles : Judges g w lim inc us j
-        settles = record {
-          shut = λ e. absurd (subst T (sym e ∙ s.still) tt);
-          made = λ e f. rw (s.all f, all_is) (made_inside g inc us us_lie seq seq_us given.tables.formed w lim given.node.forest tree_size ((T_true _).1 (sym same_test ∙ f)));
-          unsettled = λ e f. (seq, seq_us, s.choice f ∙ chosen_is, rw (s.choice f, chosen_is) ((T_false _).1 (sym same_test ∙ f)));
-        }
-
--- A node that is closed
-pub judges_closed : (g : Graph) (w : Network) (limits inc us : List ℕ) (j : Judged) → j.closed ≡ true → Answers g w limits inc us none → Judges g w limits inc us j
-judges_closed g w limits inc us j shut h = record { shut = λ e. h; made = λ e. absurd (subst T (sym shut ∙ e) tt); unsettled = λ e. absurd (subst T (sym shut ∙ e) tt) }
+        pub settles : (j : Judged) → Settles kinds k costs leads limits inc chosen j → Judges g w lim inc us j
+        settles Closed s = absurd s
+        settles (Tree rows) s = rw (s.1, all_is) (made_inside g inc us us_lie seq seq_us given.tables.formed w lim given.node.forest tree_size (subst T same_test s.0))
+        settles (Open rows factors) s = (seq, seq_us, s.1 ∙ chosen_is, rw (s.1, chosen_is) (λ t. s.0 (subst T (sym same_test) t)))
 
 -- on every input the rows of a choice have their flags set
 few_part : (firsts seconds : List ℕ) (n : ℕ) (labels rows : List ℕ) → choose_few firsts seconds n labels rows ⊆ rows
@@ -184,3 +178,10 @@ pub choice_on : (firsts seconds weights flags : List ℕ) (n : ℕ) (labels : Li
     → chosen ≡ take 31 (choose_few firsts seconds n labels (rows_by weights flags)) → chosen ⊆ rows_on flags
 choice_on firsts seconds weights flags n labels e r m =
     by_usable weights flags r (few_part firsts seconds n labels (rows_by weights flags) r (take_out 31 _ (subst (λ (x : List ℕ). r ∈ x) e m)))
+
+-- the rows of a whole choice that settles nothing
+pub settles_usable : (kinds : List ℕ) (k : ℕ) (costs leads limits inc : List ℕ) {chosen : List ℕ} (flags : List ℕ) {need : ℕ} (j : Judged) → Settles kinds k costs leads limits inc chosen j
+    → length chosen ≡ need → chosen ⊆ rows_on flags → Usable flags need j
+settles_usable kinds k costs leads limits inc flags Closed s full within = tt
+settles_usable kinds k costs leads limits inc flags (Tree rows) s full within = tt
+settles_usable kinds k costs leads limits inc flags (Open rows factors) s full within = rw s.1 (full, within)

@@ -1,3 +1,4 @@
 pub mod Sifting
 pub mod Judging
 pub mod Turns
+pub mod Arrays

@@ -1,18 +1,16 @@
 -- Flags of which some are cleared (`Sifted`): none at first, one more, in turns; which rows are left; and what the turns of `keep` and `fitting` clear.
 use mathlib.Core.Path.{◌∙◌, ◌≡◌, ap, refl, subst, sym}
-use mathlib.Core.Bool.{Bool, true}
 use mathlib.Core.Logic.{◌⊎◌, inl, inr, ⊎_elim}
 use mathlib.Core.List.{List, [], ◌∷◌}
 use Prim.Native.Nat.{◌+◌, ◌-◌, ◌<◌, ◌≤◌, suc, zero, ℕ}
 use native.Mathlib.Decide.{ℕ_discrete}
 use native.Mathlib.Omega.{arith}
-use lib.Dec.{leb, leb→le, le→leb}
+use lib.Dec.{leb, leb→le}
 use lib.ListN.{get_or, length, length-set, set}
 use lib.Seq.{get_or-set_other}
-use borrow.Author.Tests.{leb-true}
 use Rattle.lists.specs.Lists.{largest, pick, sum}
 use Rattle.lists.proofs.Members.{◌∈◌, ◌⊆◌}
-use Rattle.lists.proofs.Tests.{T-same, T_true, pick_elim}
+use Rattle.lists.proofs.Tests.{pick_elim}
 use Rattle.chosen.specs.Chosen.{rows_on}
 use Rattle.chosen.proofs.Flags.{on_mem}
 use Rattle.tally.specs.Tally.{added_in, closing_in, cost_in, days_in, kind_cost, lead_in, worst_in}
@@ -62,21 +60,6 @@ module _ (Bad : ℕ → Type 0) (flags next : List ℕ) (s : Sifted Bad flags ne
       let (low, t) = (on_mem flags r).0 m in
       ⊎_elim (λ e. (on_mem next r).1 (low, omega arith)) (λ (e, bad). absurd (good bad)) (s.each r)
 
--- a cost reaches a limit with what is there
-pub reach_room : (limit base cost : ℕ) → cost < limit → leb (limit - cost) base ≡ leb limit (base + cost)
-reach_room limit base cost h = T-same (leb (limit - cost) base) (leb limit (base + cost))
-    (λ t. le→leb limit (base + cost) (omega (arith, leb→le (limit - cost) base t)))
-    (λ t. le→leb (limit - cost) base (omega (arith, leb→le limit (base + cost) t)))
-
-pub reach_over : (limit base cost : ℕ) → limit ≤ cost → true ≡ leb limit (base + cost)
-reach_over limit base cost h = sym ((T_true (leb limit (base + cost))).0 (le→leb limit (base + cost) (omega arith)))
-
--- a turn that clears the flag of a row whose cost x reaches the limit
-pub sifted_turn : (limit base : ℕ) (cost : ℕ → ℕ) (at : ℕ) {flags next : List ℕ} {x : ℕ} {t : Bool} → Sifted (λ r. limit ≤ base + cost r) flags next
-    → x ≡ cost at → t ≡ leb limit (base + x) → t ≡ true → Sifted (λ r. limit ≤ base + cost r) flags (set next at 0)
-sifted_turn limit base cost at {flags} {next} s e r t =
-    sifted_one (λ r. limit ≤ base + cost r) flags next at (leb-true limit (base + cost at) (ap (λ (y : ℕ). leb limit (base + y)) (sym e) ∙ sym r ∙ t)) s
-
 -- What a row adds beside the rows that are in, by kind
 
 module _ (costs : List ℕ) (c limit : ℕ) (inc : List ℕ) {flags next : List ℕ} where
@@ -92,12 +75,13 @@ module _ (costs : List ℕ) (c limit : ℕ) (inc : List ℕ) {flags next : List 
       (λ r h. pick_elim (λ (x : ℕ). base ≡ x → limit ≤ worst_in costs c (r ∷ inc)) (leb limit (worst_in costs c inc))
       (λ t d. omega (arith, leb→le limit (worst_in costs c inc) t)) (λ n d. omega (arith, h, d)) e)
 
-  pub sifted_closing : (leads : List ℕ) (base : ℕ) (days : List ℕ) → base ≡ closing_in costs leads c inc → days ≡ days_in costs leads c inc → ((r : ℕ) → lead_in leads r < 256)
-      → Sifted (λ r. limit ≤ base + (cost_in costs c r - get_or days (lead_in leads r) 0)) flags next → Sifted (λ r. limit ≤ closing_in costs leads c (r ∷ inc)) flags next
+  pub sifted_closing : (leads : List ℕ) (base : ℕ) (days : List ℕ) → base ≡ closing_in costs leads c inc → days ≡ days_in costs leads c inc
+      → Sifted (λ r. (lead_in leads r < 256) × (limit ≤ base + (cost_in costs c r - get_or days (lead_in leads r) 0))) flags next
+      → Sifted (λ r. limit ≤ closing_in costs leads c (r ∷ inc)) flags next
   unfolding closing_in
-  sifted_closing leads base days e d low =
-      sifted_by (λ r. limit ≤ base + (cost_in costs c r - get_or days (lead_in leads r) 0)) (λ r. limit ≤ closing_in costs leads c (r ∷ inc)) flags next
-      (λ r h. omega (arith, ap (λ (l : List ℕ). get_or l (lead_in leads r) 0) d ∙ days_at costs leads c inc (lead_in leads r) (low r)))
+  sifted_closing leads base days e d =
+      sifted_by (λ r. (lead_in leads r < 256) × (limit ≤ base + (cost_in costs c r - get_or days (lead_in leads r) 0))) (λ r. limit ≤ closing_in costs leads c (r ∷ inc)) flags next
+      (λ r (low, h). omega (arith, ap (λ (l : List ℕ). get_or l (lead_in leads r) 0) d ∙ days_at costs leads c inc (lead_in leads r) low))
 
 -- a turn over the criteria: c is sifted too
 pub sifted_kept : (kinds : List ℕ) (k : ℕ) (costs leads limits inc : List ℕ) {c : ℕ} {flags next last : List ℕ} → c < 4 → c < k

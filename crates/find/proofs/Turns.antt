@@ -1,7 +1,6 @@
 -- The turns of the search at one node (`Turn`): what is found among the usable rows that are left tells of all (`carries`). It begins with all rows that fit (`turn_start`,
 -- `fitted`), and goes on without a row that was tried in (`turn_next`).
 use mathlib.Core.Path.{◌∙◌, ◌≡◌, ap, refl, subst, sym}
-use mathlib.Core.Bool.{Bool, false, true}
 use mathlib.Core.Logic.{◌↔◌, ⊎_elim}
 use mathlib.Core.Option.{Option, none, some}
 use mathlib.Core.List.{List, [], ◌++◌, ◌∷◌, append-nil}
@@ -15,9 +14,11 @@ use mathlib.Core.List.Memᴰ.{tail as there}
 use Prim.Native.Nat.{◌-◌, ◌<◌, suc, ℕ}
 use native.Mathlib.Omega.{arith}
 use lib.Dec.{T}
+use Rattle.std.specs.Prelude.{Option as Maybe, None, Some, false, true}
+use Rattle.std.specs.Option.{is_some}
 use lib.ListN.{get_or, length, length-append, length-map, length-set, set, take}
 use lib.Seq.{get_or-take, length-take-le, take_all}
-use Rattle.lists.specs.Lists.{pick, range}
+use Rattle.lists.specs.Lists.{range}
 use Rattle.lists.proofs.Distinct.{Distinct, append_distinct, pigeonhole}
 use Rattle.lists.proofs.Members.{◌∈◌, ◌⊆◌}
 use Rattle.lists.proofs.Ranges.{range_length}
@@ -34,11 +35,11 @@ use Rattle.completions.specs.Labels.{labels_of}
 use Rattle.completions.proofs.Boxes.{inside_at_lem}
 use Rattle.completions.proofs.Find.{Answers, branch_in, branch_none, branch_out, choice_pivot, cost_at_lem, only_none, same_rows_lem, wider}
 use Rattle.chosen.specs.Chosen.{rows_of, rows_on}
+use Rattle.chosen.specs.declared.Chosen.{Chosen}
 use Rattle.chosen.proofs.Flags.{on_clear, on_distinct, on_fewer, on_mem}
 use Rattle.tally.specs.Tally.{kind_of, table_of}
 use Rattle.tally.proofs.Tables.{kind_at_lem, kind_table}
-use Rattle.find.specs.declared.Found.{Found}
-use Rattle.find.specs.declared.Judged.{Judged}
+use Rattle.find.specs.declared.Judged.TheVariants.{Open}
 use Rattle.find.specs.Find.{Node, Tables, found_of, graph_in}
 use Rattle.find.specs.Nodes.{Given, Judges, Reached, Sifted}
 use Rattle.find.proofs.Sifting.{sifted_keeps, sifted_part}
@@ -147,27 +148,26 @@ module _ (firsts seconds : List ℕ) (limit k : ℕ) (kinds costs leads limits i
     turn_next h = record { size = length-set us at 0 ∙ turn.size; part = λ r m. turn.part r (clear_part r m); carries = h }
 
   -- the row of an unsettled choice is tried in
-  module _ (us₀ us : List ℕ) (turn : Turn us₀ us) (tables : Tables firsts seconds limit k) (node : Node g k limits inc us₀) (j : Judged)
-      (judges : Judges g w lim inc (rows_on us) j) (open_still : j.closed ≡ false) (none_yet : j.found ≡ false) (at : ℕ) (m : at ∈ rows_of j.rows) (low : at < 256)
+  module _ (us₀ us : List ℕ) (turn : Turn us₀ us) (tables : Tables firsts seconds limit k) (node : Node g k limits inc us₀) (choice : Chosen) (factors : List ℕ)
+      (judges : Judges g w lim inc (rows_on us) (Open choice factors)) (at : ℕ) (m : at ∈ rows_of choice) (low : at < 256)
       (inc' : List ℕ) (is_longer : inc' ≡ take 31 (inc ++ (at ∷ []))) where
     pub step_node : Node g k limits inc' (set us at 0)
     step_node =
-        let (seq, within, is, n) = judges.unsettled open_still none_yet in
+        let (seq, within, is, n) = judges in
         in_node us₀ us turn at low tables node seq within (subst (λ (x : List ℕ). at ∈ x) is m) inc' is_longer
 
-    pub step_found : (f : Found) → f.some ≡ true → Answers g w lim inc' (rows_on (set us at 0)) (found_of f) → Answers g w lim inc (rows_on us₀) (found_of f)
-    step_found f e h =
-        let (seq, within, is, n) = judges.unsettled open_still none_yet in
-        let same : found_of f ≡ some (rows_of f.rows) = ap (λ (b : Bool). pick b (some (rows_of f.rows)) none) e in
-        subst (Answers g w lim inc (rows_on us₀)) (sym same)
-        (found_in us₀ us turn at low tables node seq within (subst (λ (x : List ℕ). at ∈ x) is m) inc' is_longer (rows_of f.rows) (subst (Answers g w lim inc' (rows_on (set us at 0))) same h))
+    pub step_found : (tree : Maybe Chosen) → is_some tree ≡ true → Answers g w lim inc' (rows_on (set us at 0)) (found_of tree) → Answers g w lim inc (rows_on us₀) (found_of tree)
+    step_found None e h = cc
+    step_found (Some rows) e h =
+        let (seq, within, is, n) = judges in
+        found_in us₀ us turn at low tables node seq within (subst (λ (x : List ℕ). at ∈ x) is m) inc' is_longer (rows_of rows) h
 
-    pub step_none : (f : Found) → f.some ≡ false → Answers g w lim inc' (rows_on (set us at 0)) (found_of f)
+    pub step_none : (tree : Maybe Chosen) → is_some tree ≡ false → Answers g w lim inc' (rows_on (set us at 0)) (found_of tree)
         → (o : Option (List ℕ)) → Answers g w lim inc (rows_on (set us at 0)) o → Answers g w lim inc (rows_on us₀) o
-    step_none f e h =
-        let (seq, within, is, n) = judges.unsettled open_still none_yet in
-        carries_on us₀ us turn at low tables node seq within (subst (λ (x : List ℕ). at ∈ x) is m) inc' is_longer
-        (subst (Answers g w lim inc' (rows_on (set us at 0))) (ap (λ (b : Bool). pick b (some (rows_of f.rows)) none) e) h)
+    step_none (Some rows) e h = cc
+    step_none None e h =
+        let (seq, within, is, n) = judges in
+        carries_on us₀ us turn at low tables node seq within (subst (λ (x : List ℕ). at ∈ x) is m) inc' is_longer h
 
   -- nothing is missing, and the rows that are in are not inside
   pub full_none : {us labels : List ℕ} {need : ℕ} → Given firsts seconds limit k limits inc us need labels → need ≡ 0 → (rows : List ℕ) → length rows ≡ need

@@ -1,15 +1,15 @@
 -- What a search is over: the graph of two lists of ends (`graph_in`, `Tables`); a node of it (`Node`); and what an answer stands for (`found_of`).
 -- Which tree is found is left open; completions' `Answers` says what the answer tells.
 use Rattle.std.proofs.Math.Option.{Option, none, some}
-use Rattle.std.specs.Prelude.{List, ◌<◌, ◌≤◌, ℕ, get_or, length}
-use Rattle.lists.specs.Lists.{pick, range}
+use Rattle.std.specs.Prelude.{List, ◌<◌, ◌≤◌, ℕ, Option as Maybe, None, Some, get_or, length}
+use Rattle.lists.specs.Lists.{range}
 use Rattle.lists.proofs.Members.{◌∈◌}
 use Rattle.graph.specs.Graph.{Graph}
 use Rattle.graph.proofs.Minimal.{WellFormed}
 use Rattle.forests.proofs.Forest.{Forest}
 use Rattle.forests.proofs.Joined.{Lies}
 use Rattle.chosen.specs.Chosen.{rows_of, rows_on}
-use Rattle.find.specs.declared.Found.{Found}
+use Rattle.chosen.specs.declared.Chosen.{Chosen}
 
 -- the graph of these ends, with nodes from 1 on and the plant at node 1
 abbrev pub graph_in : List ℕ → List ℕ → ℕ → Graph
@@ -30,5 +30,6 @@ pub record Node (g : Graph) (k : ℕ) (limits inc usable : List ℕ) : Type 0 wh
   pub open_past_lem : (c : ℕ) → k ≤ c → c < 4 → 0 < get_or limits c 0
 
 -- the tree that was found
-abbrev pub found_of : Found → Option (List ℕ)
-found_of f = pick f.some (some (rows_of f.rows)) none
+abbrev pub found_of : Maybe Chosen → Option (List ℕ)
+found_of None = none
+found_of (Some rows) = some (rows_of rows)

@@ -1,5 +1,5 @@
 -- What the functions below `find` answer with: flags of which some are cleared (`Sifted`), and what a choice says of a node (`Judges`).
-use Rattle.std.specs.Prelude.{◌≡◌, false, true, ◌⊎◌, List, ◌++◌, ◌+◌, ◌<◌, ◌≤◌, suc, ℕ, T, get_or, length, take}
+use Rattle.std.specs.Prelude.{◌≡◌, ◌⊎◌, List, ◌++◌, ◌+◌, ◌<◌, ◌≤◌, suc, ℕ, T, get_or, length, take}
 use Rattle.std.proofs.Math.Option.{none}
 use Rattle.lists.specs.Lists.{filter_b, range, sort}
 use Rattle.lists.proofs.Members.{◌∈◌, ◌⊆◌}
@@ -14,6 +14,7 @@ use Rattle.chosen.specs.Chosen.{is_on, rows_of, rows_on}
 use Rattle.tally.specs.Tally.{kind_cost, vector_in}
 use Rattle.orders.specs.Orders.{key_less}
 use Rattle.find.specs.declared.Judged.{Judged}
+use Rattle.find.specs.declared.Judged.TheVariants.{Closed, Open, Tree}
 use Rattle.find.specs.Find.{Node, Tables, graph_in}
 
 -- flags of which those of some bad rows are cleared
@@ -37,18 +38,21 @@ pub record Given (firsts seconds : List ℕ) (limit k : ℕ) (limits inc flags :
   pub lacks : suc (length inc + need) ≡ limit
 
 -- What the lightest choice says of a node: no tree of it is inside, this one is, or neither; then the rows are a whole choice among the usable rows, which is not inside.
-pub record Judges (g : Graph) (w : Network) (limits inc us : List ℕ) (j : Judged) : Type 0 where
-  pub shut : j.closed ≡ true → Answers g w limits inc us none
-  pub made : j.closed ≡ false → j.found ≡ true → Inside g w limits inc us (rows_of j.rows)
-  pub unsettled : j.closed ≡ false → j.found ≡ false → (seq : List ℕ) × (seq ⊆ us) × (rows_of j.rows ≡ greedy g inc seq) × (¬ T (inside limits (cost_of w (inc ++ rows_of j.rows))))
+abbrev pub Judges : Graph → Network → List ℕ → List ℕ → List ℕ → Judged → Type 0
+Judges g w limits inc us Closed = Answers g w limits inc us none
+Judges g w limits inc us (Tree rows) = Inside g w limits inc us (rows_of rows)
+Judges g w limits inc us (Open rows factors) = (seq : List ℕ) × (seq ⊆ us) × (rows_of rows ≡ greedy g inc seq) × (¬ T (inside limits (cost_of w (inc ++ rows_of rows))))
 
 -- on every input: rows that settle nothing are as many as are needed, and their flags are set
 abbrev pub Usable : List ℕ → ℕ → Judged → Type 0
-Usable flags need j = j.closed ≡ false → j.found ≡ false → (length (rows_of j.rows) ≡ need) × ((r : ℕ) → r ∈ rows_of j.rows → r ∈ rows_on flags)
+Usable flags need Closed = Unit {0}
+Usable flags need (Tree rows) = Unit {0}
+Usable flags need (Open rows factors) = (length (rows_of rows) ≡ need) × ((r : ℕ) → r ∈ rows_of rows → r ∈ rows_on flags)
 
 -- what a whole choice says: with the rows that are in it is inside the limits, or it is not
-pub record Settles (kinds : List ℕ) (k : ℕ) (costs leads limits inc chosen : List ℕ) (j : Judged) : Type 0 where
-  pub still : j.closed ≡ false
-  pub tested : j.found ≡ inside limits (vector_in kinds k costs leads (take 31 (inc ++ chosen)))
-  pub all : j.found ≡ true → rows_of j.rows ≡ take 31 (inc ++ chosen)
-  pub choice : j.found ≡ false → rows_of j.rows ≡ chosen
+abbrev pub Settles : List ℕ → ℕ → List ℕ → List ℕ → List ℕ → List ℕ → List ℕ → Judged → Type 0
+Settles kinds k costs leads limits inc chosen Closed = ⊥
+Settles kinds k costs leads limits inc chosen (Tree rows) =
+    T (inside limits (vector_in kinds k costs leads (take 31 (inc ++ chosen)))) × (rows_of rows ≡ take 31 (inc ++ chosen))
+Settles kinds k costs leads limits inc chosen (Open rows factors) =
+    (¬ T (inside limits (vector_in kinds k costs leads (take 31 (inc ++ chosen))))) × (rows_of rows ≡ chosen)

@@ -1,8 +1,8 @@
--- Opening two files by their checks: what the code's answer for one of them says (`file_met`, `file_stops`), what the outcome for both says (`frame_refused`,
--- `frame_answered`), and what that is where a check of the first is not met (`first_stops`), of the second (`second_stops`), check 18 (`frame_other`) or none is left (`frame_met`).
+-- Opening two files by their checks: what the outcome for both says (`frame_refused`, `frame_answered`), and what that is where
+-- a check of the first is not met (`first_stops`), of the second (`second_stops`), check 18 (`frame_other`) or none is left (`frame_met`).
 use mathlib.Core.Path.{◌∙◌, ◌≡◌, ap, ap₂, refl, sym}
 use mathlib.Core.Bool.{false, true}
-use mathlib.Core.Option.{none, some}
+use mathlib.Core.Option.{some}
 use mathlib.Core.List.Memᴰ.{head as here}
 use mathlib.Core.List.{List, [], ◌++◌, ◌∷◌}
 use Prim.Native.Nat.{ℕ}
@@ -12,23 +12,8 @@ use Rattle.checks.proofs.Ended.{checked_answered, checked_met, checked_refused, 
 use Rattle.network_file.specs.File.{Sizes, file_checks, network_of, open_of, sizes_of}
 use Rattle.network_file.specs.Frames.{same_frame}
 use Rattle.network_file.proofs.Opened.{open_answered, open_refused}
-use Rattle.fields.specs.Fields.{sizes_in}
-use Rattle.fields.specs.declared.Header.{Header}
-use Rattle.network.specs.Answers.{opened_of}
-use Rattle.network.specs.declared.Opened.TheVariants as opened
-use Rattle.network.specs.declared.Opened.{Opened}
 use Rattle.operations.specs.Operations.{check}
 use Rattle.frames.specs.Frame.{Frame, Framing, frame_checks, frame_of}
-
--- What the code's answer for one file says of it
-module _ (f : List ℕ) {o : Opened} (asked : opened_of o ≡ open_of f) where
-  pub file_met : {h : Header} → o ≡ opened.Header h → (first_unmet (file_checks f) ≡ none) × (sizes_in h ≡ sizes_of f)
-  file_met {h} e =
-      let (met, sizes) = open_answered f (sizes_in h) (sym asked ∙ ap opened_of e) in
-      (met, sym sizes)
-
-  pub file_stops : {e : ℕ} → o ≡ opened.Refused e → first_unmet (file_checks f) ≡ some e
-  file_stops {e} r = open_refused f e (sym asked ∙ ap opened_of r)
 
 module _ (f g : List ℕ) where
   -- whether they have one frame
@@ -64,25 +49,29 @@ module _ (f g : List ℕ) where
   unfolding frame_of
   stops e h = sym (checked_unmet (frame_checks f g) sizes e h)
 
-  pub first_stops : (e : ℕ) → first_unmet (file_checks f) ≡ some e → refused e ≡ frame_of f g
+  pub first_stops : (e : ℕ) → refused e ≡ open_of f → refused e ≡ frame_of f g
   unfolding frame_checks
-  first_stops e h = stops e (first_unmet_stops (file_checks f ++ file_checks g) (alike ∷ []) e (first_unmet_stops (file_checks f) (file_checks g) e h))
+  first_stops e asked = stops e (first_unmet_stops (file_checks f ++ file_checks g) (alike ∷ []) e (first_unmet_stops (file_checks f) (file_checks g) e (open_refused f e (sym asked))))
 
-  module _ (one : first_unmet (file_checks f) ≡ none) where
-    pub second_stops : (e : ℕ) → first_unmet (file_checks g) ≡ some e → refused e ≡ frame_of f g
+  module _ {s : Sizes} (one : answered s ≡ open_of f) where
+    pub second_stops : (e : ℕ) → refused e ≡ open_of g → refused e ≡ frame_of f g
     unfolding frame_checks
-    second_stops e h = stops e (first_unmet_stops (file_checks f ++ file_checks g) (alike ∷ []) e (first_unmet_append (file_checks f) (file_checks g) one ∙ h))
+    second_stops e asked =
+        stops e (first_unmet_stops (file_checks f ++ file_checks g) (alike ∷ []) e
+        (first_unmet_append (file_checks f) (file_checks g) (open_answered f s (sym one)).0 ∙ open_refused g e (sym asked)))
 
-    module _ (two : first_unmet (file_checks g) ≡ none) where
+    module _ {t : Sizes} (two : answered t ≡ open_of g) where
       files_met : first_unmet (frame_checks f g) ≡ first_unmet (alike ∷ [])
       unfolding frame_checks
-      files_met = first_unmet_append (file_checks f ++ file_checks g) (alike ∷ []) (first_unmet_append (file_checks f) (file_checks g) one ∙ two)
+      files_met =
+          first_unmet_append (file_checks f ++ file_checks g) (alike ∷ [])
+          (first_unmet_append (file_checks f) (file_checks g) (open_answered f s (sym one)).0 ∙ (open_answered g t (sym two)).0)
 
       pub frame_other : same_frame (network_of f) (network_of g) ≡ false → refused 18 ≡ frame_of f g
       frame_other e = stops 18 (files_met ∙ first_unmet_unmet alike [] e)
 
-      pub frame_met : same_frame (network_of f) (network_of g) ≡ true → {s t : Sizes} → s ≡ sizes_of f → t ≡ sizes_of g
-          → answered (record { first = s; second = t }) ≡ frame_of f g
+      pub frame_met : same_frame (network_of f) (network_of g) ≡ true → answered (record { first = s; second = t }) ≡ frame_of f g
       unfolding frame_of first_unmet
-      frame_met e {s} {t} same_s same_t =
-          ap₂ (λ (a b : Sizes). answered (record { first = a; second = b })) same_s same_t ∙ sym (checked_met (frame_checks f g) sizes (files_met ∙ first_unmet_met alike [] e))
+      frame_met e =
+          ap₂ (λ (a b : Sizes). answered (record { first = a; second = b })) (sym (open_answered f s (sym one)).1) (sym (open_answered g t (sym two)).1)
+          ∙ sym (checked_met (frame_checks f g) sizes (files_met ∙ first_unmet_met alike [] e))

@@ -1,10 +1,11 @@
--- What each case of the code's answer says in document 02's terms.
-use Rattle.checks.specs.Checks.{Outcome, answered, refused}
+-- What the code's answer says in document 02's terms.
+use Rattle.std.specs.Prelude.{Result}
+use Rattle.checks.specs.Checks.{Outcome}
+use Rattle.refusals.specs.Refusals.{outcome_of}
+use Rattle.refusals.specs.declared.Refusal.{Refusal}
 use Rattle.fields.specs.Fields.{sizes_in}
+use Rattle.fields.specs.declared.Header.{Header}
 use Rattle.frames.specs.Frame.{Frame}
-use Rattle.frames.specs.declared.Framed.{Framed}
-use Rattle.frames.specs.declared.Framed.TheVariants as framed
 
-abbrev pub framed_of : Framed → Outcome Frame
-framed_of (framed.Headers first second) = answered (record { first = sizes_in first; second = sizes_in second })
-framed_of (framed.Refused e) = refused e
+abbrev pub framed_of : Result (Header × Header) Refusal → Outcome Frame
+framed_of = outcome_of (λ h. record { first = sizes_in h.0; second = sizes_in h.1 })

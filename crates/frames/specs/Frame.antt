@@ -1,9 +1,8 @@
 -- Opening two network files of one frame: the checks of the first, those of the second, then 18.
-use Rattle.std.specs.Prelude.{◌≡◌, Bool, true, List, [], ◌++◌, ◌∷◌, ◌+◌, ℕ, eqb}
+use Rattle.std.specs.Prelude.{◌≡◌, true, List, [], ◌++◌, ◌∷◌, ℕ}
 use Rattle.std.proofs.Math.Option.{none}
-use Rattle.lists.specs.Lists.{all, range}
 use Rattle.checks.specs.Checks.{Check, Outcome, checked, first_unmet}
-use Rattle.network_file.specs.File.{Sizes, byte_at, file_checks, network_of, sizes_of}
+use Rattle.network_file.specs.File.{Sizes, file_checks, network_of, sizes_of}
 use Rattle.network_file.specs.Frames.{same_frame}
 use Rattle.operations.specs.Operations.{check}
 
@@ -27,8 +26,3 @@ pub record Framing (f g : List ℕ) (x : Frame) : Type 0 where
   pub first_sizes : x.first ≡ sizes_of f
   pub second_sizes : x.second ≡ sizes_of g
   pub framed : same_frame (network_of f) (network_of g) ≡ true
-
--- the first k kind bytes of two files are the same
-unfoldable pub kinds_agree : List ℕ → List ℕ → ℕ → Bool
-unfolding all range
-kinds_agree f g k = all (λ c. eqb (byte_at f (9 + c)) (byte_at g (9 + c))) (range 0 k)

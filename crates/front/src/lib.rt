@@ -6,27 +6,17 @@ ghost use Rattle.std.specs.Prelude.{◌≡◌, ◌≤◌};
 ghost use Rattle.fronted.specs.Answers.{fronted_of};
 ghost use Rattle.operations.specs.Operations.{front_call};
 
-use fronted::FrontAnswer;
+use chart::Chart;
+use fronted::Rows;
+use refusals::Refusal;
 
 // How many rows have an end at v.
-fn degree(chart: &[u64; chart::LENGTH], v: u8) -> u64
+fn degree(chart: &Chart, v: u8) -> u64
     ensures { result ≤ 256 }
 {
-    let m = chart::row_count(chart);
-    let mut count: u64 = 0;
-    let mut r: usize = 0;
-    while r < m {
-        let at = r;
-        r += 1;
-        if chart::first_end(chart, false, at) == v {
-            count += 1;
-        } else {
-            if chart::second_end(chart, false, at) == v {
-                count += 1;
-            }
-        }
-    }
-    count
+    (0..chart.row_count())
+        .filter(|r| { chart.first_end(false, *r) == v || chart.second_end(false, *r) == v })
+        .count() as u64
 }
 
 // Up to so many trees the list is walked: with more criteria a front has more rows to seek, and a walk takes the same time whatever their number.
@@ -44,16 +34,12 @@ fn most_walked(k: u8) -> u64
 // Whether the network has few trees: a tree has for each node but the plant one row to the node before it, so that there are no more trees than the product of
 // the nodes' degrees.
 fn has_few_trees(file: &[u8]) -> bool {
-    let header = fields::header_of(file);
-    let most = most_walked(header.k);
-    let mut chart = [0u64; chart::LENGTH];
+    let most = most_walked(fields::header_of(file).k);
+    let mut chart = Chart::empty();
     charting::of_file(file, &mut chart);
-    let n = chart::limit(&chart);
-    let mut product: u64 = 1;
-    let mut v: u8 = 1;
-    while v < n {
-        v += 1;
-        product = product * degree(&chart, v);
+    let mut product = 1;
+    for v in 2..=chart.limit() {
+        product *= degree(&chart, v);
         if most < product {
             return false;
         }
@@ -62,12 +48,13 @@ fn has_few_trees(file: &[u8]) -> bool {
 }
 
 /// Front: the first vectors of the front, as many as fit, each with the first tree of the list that has it.
-pub fn front(file: &[u8], costs: &mut [u32], witnesses: &mut [u16]) -> FrontAnswer
+pub fn front(file: &[u8], costs: &mut [u32], witnesses: &mut [u16]) -> Result<Rows, Refusal>
     ensures { record { outcome = fronted_of result; buffers = record { costs = costs.new; witnesses = witnesses.new } }
         ≡ front_call file.now costs.old witnesses.old }
 {
     if has_few_trees(file) {
-        return walked::front(file, costs, witnesses);
+        walked::front(file, costs, witnesses)
+    } else {
+        sought::front(file, costs, witnesses)
     }
-    sought::front(file, costs, witnesses)
 }

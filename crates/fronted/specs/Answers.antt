@@ -1,15 +1,13 @@
--- What each case of the code's answer says in document 01's terms.
-use Rattle.checks.specs.Checks.{Outcome, answered, refused}
-use Rattle.network_file.specs.File.{Sizes}
+-- What the code's answer says in document 01's terms.
+use Rattle.std.specs.Prelude.{Result}
+use Rattle.checks.specs.Checks.{Outcome}
 use Rattle.operations.specs.Operations.{Fronted}
-use Rattle.fronted.specs.declared.FrontAnswer.{FrontAnswer}
-use Rattle.fronted.specs.declared.FrontAnswer.TheVariants as answer
+use Rattle.refusals.specs.Refusals.{outcome_of}
+use Rattle.refusals.specs.declared.Refusal.{Refusal}
+use Rattle.fronted.specs.declared.Rows.{Rows}
 
-abbrev pub fronted_of : FrontAnswer → Outcome Fronted
-fronted_of (answer.Rows count whole) = answered (record { count = count; whole = whole })
-fronted_of (answer.Refused e) = refused e
+abbrev pub rows_of : Rows → Fronted
+rows_of rows = record { count = rows.count; whole = rows.whole }
 
--- a refusal of Open, or of 12, as one of Front; an answer never is one
-abbrev pub refused_by : Outcome Sizes → Outcome Fronted
-refused_by (refused e) = refused e
-refused_by (answered a) = refused 0
+abbrev pub fronted_of : Result Rows Refusal → Outcome Fronted
+fronted_of = outcome_of rows_of

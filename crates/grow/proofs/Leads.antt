@@ -3,15 +3,17 @@
 -- and in the chart of an accepted file (`file_leads`); that a chart is right says nothing of must rows between numbers that are no nodes.
 use mathlib.Core.Path.{◌∙◌, ◌≡◌, ap, refl, subst, sym}
 use mathlib.Core.Bool.{Bool, true}
-use mathlib.Core.List.{List}
-use Prim.Native.Nat.{◌-◌, ◌<◌, ℕ}
+use mathlib.Core.List.{List, [], ◌∷◌}
+use Prim.Native.Nat.{◌<◌, suc, zero, ℕ}
+use native.Mathlib.Numerals.{add-one}
 use native.Mathlib.Omega.{arith}
 use lib.Dec.{T, T_not, eqb, eqb→eq}
 use lib.ListN.{get_or, length}
 use borrow.Author.Tests.{eq-eqb, ne_eqb}
+use Rattle.std.specs.List.{list_all, range_with_len}
 use Rattle.lists.specs.Lists.{all, filter_b, has_all, member, pick, range}
+use Rattle.lists.proofs.Library.{all_is}
 use Rattle.lists.proofs.Members.{◌∈◌, all_in, all_out, filter_in, filter_out, has_all_in, has_all_out, member_in, range_in, range_out}
-use Rattle.lists.proofs.Ranges.{all_range_start}
 use Rattle.lists.proofs.Tests.{T-same, T_true, pick_elim, pick_true}
 use Rattle.graph.specs.Graph.{Graph, first_end}
 use Rattle.graph.specs.Paths.{trees}
@@ -33,6 +35,12 @@ use Rattle.grow.specs.Musts.{musts_met}
 
 -- AS THE CODE ASKS
 
+-- an iterator's numbers
+listed_range : (from n : ℕ) → range_with_len from n ≡ range from n
+unfolding range
+listed_range from zero = refl
+listed_range from (suc n) = rw (add-one, listed_range (suc from) n)
+
 -- a test of the members that pass another
 all_filter : (p q : ℕ → Bool) (l : List ℕ) → all q (filter_b p l) ≡ all (λ a. pick (p a) (q a) true) l
 all_filter p q l = T-same (all q (filter_b p l)) (all (λ a. pick (p a) (q a) true) l)
@@ -42,15 +50,14 @@ all_filter p q l = T-same (all q (filter_b p l)) (all (λ a. pick (p a) (q a) tr
     subst (λ (b : Bool). T b) (pick_true (p a) (q a) true s) (all_out (λ a. pick (p a) (q a) true) t j)))
 
 -- row r is no must row, or among the rows
-unfoldable pub dug_at : List ℕ → List ℕ → ℕ → Bool
+abbrev pub dug_at : List ℕ → List ℕ → ℕ → Bool
 dug_at c rows r = pick (must_row (firsts_in true c) r) (member r rows) true
 
-pub musts_start : (c rows : List ℕ) (count : ℕ) → count ≡ count_in c → has_all (musts_in c) rows ≡ all (dug_at c rows) (range 0 (count - 0))
-unfolding dug_at
+pub musts_start : (c rows : List ℕ) (count : ℕ) → count ≡ count_in c → list_all (dug_at c rows) (range_with_len 0 count) ≡ has_all (musts_in c) rows
 musts_start c rows count e =
-    all_filter (must_row (firsts_in true c)) (λ x. member x rows) (range 0 (length (firsts_in true c)))
-    ∙ ap (λ (m : ℕ). all (dug_at c rows) (range 0 m)) (firsts_length true c ∙ sym e)
-    ∙ all_range_start (dug_at c rows) count
+    sym (all_is (dug_at c rows) (range_with_len 0 count))
+    ∙ ap (all (dug_at c rows)) (listed_range 0 count ∙ ap (range 0) (e ∙ sym (firsts_length true c)))
+    ∙ sym (all_filter (must_row (firsts_in true c)) (λ x. member x rows) (range 0 (length (firsts_in true c))))
 
 -- with no end of a must row, and with some
 module _ (c rows : List ℕ) {ends : ℕ} (read : ends ≡ get_or (near_in true c) 0 0) where

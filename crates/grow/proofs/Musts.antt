@@ -13,7 +13,6 @@ use native.Mathlib.Decide.{ℕ_discrete}
 use native.Mathlib.Omega.{arith}
 use lib.Dec.{T, T_not, eqb, eqb→eq, not_T}
 use lib.ListN.{length, length-append}
-use borrow.Author.Tests.{eq-eqb, ne_eqb}
 use lib.Seq.{append_snoc}
 use Rattle.lists.specs.Lists.{filter_b, member}
 use Rattle.lists.proofs.Distinct.{Distinct, filled, filter_distinct}
@@ -32,7 +31,7 @@ use Rattle.states.proofs.Full.{Accepted, Full, LeastFull, begun_after}
 use Rattle.states.proofs.Due.{Accepts, Due, accepts_end, accepts_least, accepts_legal, begun_walk}
 use Rattle.words.specs.Words.{bit, has, minus}
 use Rattle.words.proofs.Words.{has_minus, has_zero}
-use Rattle.spread.specs.Spread.{open_at, seeds_of, spread_of}
+use Rattle.spread.specs.Spread.{open_at}
 use Rattle.chart.proofs.Charts.{Charted, Charts, Ready, few, masked, must_graph_in, musts_known, musts_long, spared}
 use Rattle.chart.specs.Chart.{firsts_in, graph_in, head_in, limit_in, musts_in, near_in, seconds_in}
 use Rattle.spread.proofs.Spreads.{open_in_lem, spread_reaches}
@@ -278,25 +277,6 @@ module _ {c : List ℕ} (right : Charts c) {s : State} (b : Begun (graph_in c) s
   pub accepted_none : accepted_of c fresh s.entered s.place s.node ≡ none
       → (m : Key) → Legal g (row_numbers g) s m → ¬ Accepted g s musts m
   accepted_none e = subst Told e accepted_told
-
--- What the code has found is the accepted step: with no fresh node at the end of a must row, and with some
-
-module _ (c : List ℕ) (fresh : ℕ) (entered : List ℕ) (place node : ℕ) {o : Option Key} where
-  pub claiming_step : {seeds claimed unclaimed : ℕ} {any must : Option Key} → seeds ≡ seeds_of (near_in true c) fresh entered place node
-      → claimed ≡ spread_of (near_in true c) (limit_in c) fresh seeds → unclaimed ≡ minus fresh claimed → any ≡ step_in c false unclaimed entered place node
-      → must ≡ step_in c true fresh entered place node → o ≡ earlier_of any must
-      → o ≡ claiming_of c fresh entered place node
-  unfolding claiming_of claimed_of
-  claiming_step e1 e2 e3 e4 e5 d = rw (← e1, ← e2, ← e3, ← e4, ← e5) d
-
-  module _ {ends : ℕ} (read : ends ≡ open_at (near_in true c) fresh 0) where
-    pub accepted_idle : ends ≡ 0 → o ≡ step_in c false fresh entered place node → o ≡ accepted_of c fresh entered place node
-    unfolding accepted_of
-    accepted_idle e d = rw (← read, eq-eqb ends 0 e) d
-
-    pub accepted_claimed : ¬ (ends ≡ 0) → o ≡ claiming_of c fresh entered place node → o ≡ accepted_of c fresh entered place node
-    unfolding accepted_of
-    accepted_claimed n d = rw (← read, ne_eqb ends 0 n) d
 
 -- A path that grows
 

@@ -1,5 +1,4 @@
--- The models of the two loops, turn by turn: the labels of the rows from a place on (`rows_none`, `rows_next`), and what is chosen at last from a place on
--- (`chosen_from`), which no turn changes. Assumes nothing.
+-- The model of the choice, turn by turn: what is chosen at last from a place on (`chosen_from`), which no turn changes. Assumes nothing.
 use mathlib.Core.Path.{◌∙◌, ◌≡◌, ap, refl, sym}
 use mathlib.Core.Bool.{false, true}
 use mathlib.Core.List.{List, [], ◌++◌, ◌∷◌, append-nil}
@@ -11,20 +10,9 @@ use lib.Seq.{append_snoc, drop-cons, take_all}
 use Rattle.lists.specs.Lists.{filter_b}
 use Rattle.chosen.specs.Chosen.{is_on}
 use Rattle.chosen.proofs.Laws.{cut_twice}
-use Rattle.completions.specs.Labels.{choose_few, joined_by, labels_of, same_label}
+use Rattle.completions.specs.Labels.{choose_few, joined_by, same_label}
 
 module _ (fs ss : List ℕ) where
-  -- Rows that join their ends, the last of them first
-
-  pub rows_none : (own l : List ℕ) (n : ℕ) → length l ≤ n → own ≡ labels_of fs ss own (drop n l)
-  unfolding labels_of
-  rows_none own l n h = rw (drop_of_length-le l h)
-
-  pub rows_next : (own l : List ℕ) (i : ℕ) → 0 < i → i ≤ length l → joined_by fs ss (labels_of fs ss own (drop i l)) (get_or l (i - 1) 0) ≡ labels_of fs ss own (drop (i - 1) l)
-  unfolding labels_of
-  rows_next own l zero h k = absurd (omega arith)
-  rows_next own l (suc i) h k = let back : suc i - 1 ≡ i = omega arith in rw back (sym (ap (labels_of fs ss own) (drop-cons l i 0 k)))
-
   -- The choice
 
   module _ (flags order : List ℕ) where

@@ -2,103 +2,82 @@
 //! Each function is equal to its model in completions' specs/Labels.antt, on every input.
 #![tactic(auto)]
 
-ghost use Rattle.std.specs.Prelude.{◌≡◌, eqb, take};
+ghost use Rattle.std.specs.Prelude.{◌≡◌, eqb, get_or, map, take};
 ghost use Rattle.lists.specs.Lists.{filter_b, pick, range};
 ghost use Rattle.chosen.specs.Chosen.{is_on, rows_of};
 ghost use Rattle.completions.specs.Labels.{choose_few, label_at, labels_of, relabel};
 
 use chosen::Chosen;
+use std::array;
+
+/// The first and the second ends of rows, by row number; a row that stands in none has ends 0.
+#[derive(Clone, Copy, Debug, PartialEq, Eq)]
+pub struct Ends<'a> {
+    pub firsts: &'a [u8],
+    pub seconds: &'a [u8],
+}
 
 // Each node by itself: node v has label v.
 fn own() -> [u8; 33]
     ensures { result ≡ range 0 33 }
 {
-    let mut labels = [0u8; 33];
-    let mut v: u8 = 0;
-    while v < 33 {
-        labels[v as usize] = v;
-        v += 1;
-    }
-    labels
-}
-
-// The label of a node; 0 where there is no such node.
-fn label_at(labels: [u8; 33], v: u8) -> u8
-    ensures { result ≡ label_at labels v }
-{
-    let at = v as usize;
-    if at < 33 { labels[at] } else { 0 }
-}
-
-// Label x once label a has become b.
-fn turned(x: u8, a: u8, b: u8) -> u8
-    ensures { result ≡ pick (eqb x a) b x }
-{
-    if x == a { b } else { x }
+    array::from_fn(|v| v as u8)
 }
 
 // Label a becomes b.
-fn relabelled(labels: [u8; 33], a: u8, b: u8) -> [u8; 33]
-    ensures { result ≡ relabel a b labels }
+fn relabel(labels: &mut [u8; 33], a: u8, b: u8)
+    ensures { labels.new ≡ relabel a b labels.old }
 {
-    let mut next = labels;
-    let mut v: usize = 0;
-    while v < 33 {
-        next[v] = turned(labels[v], a, b);
-        v += 1;
+    for label in labels.iter_mut() {
+        *label = if *label == a { b } else { *label };
     }
-    next
 }
 
-/// The labels once these rows have joined their ends, the last of them first.
-pub fn labels_of(firsts: &[u8], seconds: &[u8], rows: Chosen) -> [u8; 33]
-    ensures { result ≡ labels_of firsts.now seconds.now (range 0 33) (rows_of rows) }
-{
-    let mut labels = own();
-    let mut i = rows.count();
-    while 0 < i {
-        i -= 1;
-        let r = rows.row_at(i) as usize;
-        let a = label_at(labels, slices::byte_at(firsts, r));
-        let b = label_at(labels, slices::byte_at(seconds, r));
-        let next = relabelled(labels, a, b);
-        labels = next;
+impl Ends<'_> {
+    // The labels of the ends of a row.
+    fn labels_at(self, labels: &[u8; 33], row: u8) -> (u8, u8)
+        ensures first { result.0 ≡ label_at labels.now (get_or self.entry.firsts.now row 0) }
+        ensures second { result.1 ≡ label_at labels.now (get_or self.entry.seconds.now row 0) }
+    {
+        let at = row as usize;
+        let first = slices::at(self.firsts, at, 0) as usize;
+        let second = slices::at(self.seconds, at, 0) as usize;
+        (slices::at(labels, first, 0), slices::at(labels, second, 0))
     }
-    labels
-}
 
-/// Of the rows of a sequence whose flags are set, each whose ends have different labels, until there are as many as are needed.
-pub fn choose(
-    firsts: &[u8],
-    seconds: &[u8],
-    order: &[u8],
-    flags: &[u8],
-    need: usize,
-    start: [u8; 33],
-) -> Chosen
-    ensures { rows_of result ≡ take 31 (choose_few firsts.now seconds.now need start (filter_b (is_on flags.now) order.now)) }
-{
-    let mut labels = start;
-    let mut chosen = Chosen::empty();
-    let mut left = need;
-    let mut i: usize = 0;
-    while i < order.len() {
-        if left == 0 {
-            return chosen;
+    /// The labels once these rows have joined their ends, the last of them first.
+    pub fn labels_of(self, rows: Chosen) -> [u8; 33]
+        ensures { result ≡ labels_of self.entry.firsts.now self.entry.seconds.now (range 0 33) (rows_of rows) }
+    {
+        let mut labels = own();
+        for &row in rows.rows().iter().rev() {
+            let (a, b) = self.labels_at(&labels, row);
+            relabel(&mut labels, a, b);
         }
-        let r = order[i];
-        let at = r as usize;
-        i += 1;
-        if 0 < slices::byte_at(flags, at) {
-            let a = label_at(labels, slices::byte_at(firsts, at));
-            let b = label_at(labels, slices::byte_at(seconds, at));
+        labels
+    }
+
+    /// Of the rows of a sequence whose flags are set, each whose ends have different labels, until there are as many as are needed.
+    pub fn choose(self, order: &[u8], flags: &[u8], need: usize, start: [u8; 33]) -> Chosen
+        ensures { rows_of result ≡ take 31 (choose_few self.entry.firsts.now self.entry.seconds.now need start (filter_b (is_on flags.now) order.now)) }
+    {
+        let mut labels = start;
+        let mut chosen = Chosen::empty();
+        let mut left = need;
+        for &row in order {
+            if left == 0 {
+                break;
+            }
+            if slices::at(flags, row as usize, 0) == 0 {
+                continue;
+            }
+            let (a, b) = self.labels_at(&labels, row);
             if a != b {
-                let next = relabelled(labels, a, b);
-                labels = next;
-                chosen = chosen.extended(r);
+                relabel(&mut labels, a, b);
+                chosen = chosen.extended(row);
                 left -= 1;
             }
         }
+        chosen
     }
-    chosen
 }

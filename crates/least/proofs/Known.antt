@@ -1,154 +1,195 @@
--- The known vectors in their table: each stands at a place (`piece_in`, `piece_out`), and is inside limits by its components (`inside_row`). The place of the one
--- with the least component 1 is found in one turn after the other (`placed_start`, `placed_past`, `placed_first`, `placed_less`, `placed_kept`); so no row is inside
--- (`placed_clean`), or the row there is, with the least component 1 (`Placed-row`).
+-- The known vectors as rows of their table: each is as long as there are criteria (`row_long`), and is inside limits by its components (`inside_row`). The chunks of the
+-- table are its rows (`chunks_rows`), so that the one that the code picks is the nearest (`nearest_of`); or no row is inside (`clean_rows`).
 use mathlib.Core.Path.{◌∙◌, ◌≡◌, ap, ap₂, refl, subst, sym}
-use mathlib.Core.Logic.{◌⊎◌, inl, inr, ⊎_elim}
-use mathlib.Core.Bool.{Bool, false, true}
+use mathlib.Core.Logic.{⊎_elim}
+use mathlib.Core.Bool.{Bool, cond, false, true}
 use mathlib.Core.List.Memᴰ.{cases_cons as mem_cases}
 use mathlib.Core.List.Memᴰ.{head as here}
 use mathlib.Core.List.Memᴰ.{not-nil as mem_nil}
 use mathlib.Core.List.Memᴰ.{tail as there}
-use mathlib.Core.List.{List, [], ◌∷◌}
-use Prim.Native.Nat.{◌*◌, ◌+◌, ◌-◌, ◌/◌, ◌<◌, ◌≤◌, suc, zero, ℕ}
-use native.Mathlib.Decide.{dec_lt, ℕ_discrete}
-use native.Mathlib.Nat.{div-zero, le_refl, suc-mul, zero-mul}
+use mathlib.Core.List.{List, [], ◌∷◌, ◌++◌, map}
+use Prim.Native.Nat.{◌*◌, ◌+◌, ◌-◌, ◌/◌, ◌%◌, ◌<◌, ◌≤◌, suc, zero, ℕ}
+use native.Mathlib.Nat.{div-zero, le_refl, suc-mul}
 use native.Mathlib.Omega.{arith}
+use Rattle.std.proofs.lemmas.Bool.Decides.{nat_tests}
+use Rattle.std.proofs.lemmas.Nat.{div-add-mod', div-mul-add}
 use lib.Dec.{T, ltb, ltb→lt}
-use lib.ListN.{get_or-eq_default, drop, get_or, length, length-drop, length-take, set, take}
-use lib.Seq.{drop-drop, ext_get_or, get_or-drop, get_or-set_same, get_or-take, take-nil}
-use borrow.Author.Tests.{le-ltb, lt-ltb}
+use lib.ListN.{get_or-eq_default, drop, get_or, length, length-append, length-drop, length-take, set, take}
+use lib.Seq.{drop-append_seam, ext_get_or, get_or-set_same, get_or-take, take-append_seam, take-nil}
+use denote.Param.Members.{Mut}
+use denote.Ref.{Bor}
+use Rattle.std.specs.Fn.{CalledAt}
+use Rattle.std.specs.Iterator.Runs.{AnyItem, CallKeepsClosure, NoKeyBeyond, Run, YieldsRun}
+use Rattle.std.specs.List.{filter, slice_get}
+use Rattle.std.specs.Option.{IfSome, IsSomeAnd, MatchOption}
+use Rattle.std.specs.Ordering.{is_lt, nat_cmp}
+use Rattle.std.specs.Prelude.{None, Option, Some}
+use Rattle.std.specs.Slice.Iter.{chunks_exact_rest, chunks_exact_size, chunks_exact_steps}
+use Rattle.std.proofs.lemmas.Iterator.{YieldsList}
+use Rattle.std.proofs.lemmas.Option.{slice_get_within}
+use Rattle.std.proofs.lemmas.Iterator.Consumers.{YieldsList-end}
+use Rattle.std.proofs.lemmas.Iterator.Splits.{YieldsList-from_shown_while}
 use Rattle.lists.specs.Lists.{both}
 use Rattle.lists.proofs.Members.{◌∈◌}
-use Rattle.lists.proofs.Tests.{T-both, T_false, T_true}
+use Rattle.lists.proofs.Tests.{T-both, T_true}
 use Rattle.pages.specs.Pages.{pieces}
 use Rattle.pages.proofs.Pages.{rows_end}
 use Rattle.completions.specs.Boxes.{inside}
 use Rattle.completions.specs.Rows.{rest_of}
 use Rattle.completions.proofs.Least.{Clean, rest_at}
-use Rattle.compare.proofs.Rows.{row_ends}
 use Rattle.tally.proofs.Tables.{inside_take}
-use Rattle.least.specs.Least.{OpenPast, Placed, inside_at, known_at, known_rows}
+use Rattle.least.specs.Least.{Nearest, NoneInside, OpenPast, inside_at, known_rows}
 
--- a row of a table, at its place
-row_next : (k i : ℕ) (t : List ℕ) → drop (i * k) (drop k t) ≡ drop (suc i * k) t
-row_next k i t =
-    let next : k + i * k ≡ suc i * k = omega (arith, suc-mul i k) in
-    drop-drop (i * k) k t ∙ ap (λ (j : ℕ). drop j t) next
+-- THE CHUNKS of the table are its rows
 
-pub piece_in : (k n : ℕ) (t : List ℕ) (i : ℕ) → i < n → take k (drop (i * k) t) ∈ pieces k n t
+div_more : (k n : ℕ) → 0 < k → (k + n) / k ≡ suc (n / k)
+div_more k n many =
+    let whole : k + n ≡ suc (n / k) * k + n % k = omega (arith, suc-mul (n / k) k, div-add-mod' n k) in
+    ap (λ (m : ℕ). m / k) whole ∙ div-mul-add (suc (n / k)) k (n % k) (omega arith)
+
+-- the rows where a chunk comes, and where none is left
+chunk_first : (k : ℕ) (x rest : List ℕ) → length x ≡ k → 0 < k → known_rows k (x ++ rest) ≡ x ∷ known_rows k rest
 unfolding pieces
-piece_in k zero t i h = absurd (omega arith)
-piece_in k (suc n) t zero h = here {x = take k t} (rw (zero-mul k) refl)
-piece_in k (suc n) t (suc i) h = there (subst (λ (x : List ℕ). take k x ∈ pieces k n (drop k t)) (row_next k i t) (piece_in k n (drop k t) i (omega arith)))
+chunk_first k x rest e many =
+    rw (length-append x rest, e, div_more k (length rest) many)
+    (subst (λ (n : ℕ). (take n (x ++ rest) ∷ pieces k (length rest / k) (drop n (x ++ rest))) ≡ (x ∷ pieces k (length rest / k) rest)) e
+    (rw (take-append_seam x rest, drop-append_seam x rest) refl))
 
-pub piece_out : (k n : ℕ) (t x : List ℕ) → x ∈ pieces k n t → (i : ℕ) × (i < n) × (x ≡ take k (drop (i * k) t))
+chunk_last : (k : ℕ) (rest : List ℕ) → length rest < k → length (known_rows k rest) ≡ 0
 unfolding pieces
-piece_out k zero t x m = absurd (mem_nil m)
-piece_out k (suc n) t x m = ⊎_elim
-    (λ (e : x ≡ take k t). (0, omega arith, e ∙ (rw (zero-mul k) refl)))
-    (λ o. let (i, h, e) = piece_out k n (drop k t) x o in (suc i, omega arith, e ∙ ap (take k) (row_next k i t)))
-    (mem_cases m)
+chunk_last k rest h =
+    let all : length rest ≡ 0 * k + length rest = omega arith in
+    ap (λ (n : ℕ). length (pieces k n rest)) (ap (λ (n : ℕ). n / k) all ∙ div-mul-add 0 k (length rest) h)
 
--- The tests of the components, one after the other
+chunks_left : (s : _) → 0 < chunks_exact_size s → YieldsList (chunks_exact_steps {A = ℕ}) (λ x. x.now) s (known_rows (chunks_exact_size s) (chunks_exact_rest s))
+chunks_left s many =
+    YieldsList-from_shown_while chunks_exact_steps (λ x. x.now) (λ u. known_rows (chunks_exact_size u) (chunks_exact_rest u)) (λ u. 0 < chunks_exact_size u)
+    (λ u t p (same, (few, _), _). chunk_last (chunks_exact_size u) (chunks_exact_rest u) few)
+    (λ u x t p (same, (cut, long), _). (
+      omega (arith, same),
+      ap (known_rows (chunks_exact_size u)) cut ∙ chunk_first (chunks_exact_size u) x.now (chunks_exact_rest t) long p
+          ∙ ap (λ (k : ℕ). x.now ∷ known_rows k (chunks_exact_rest t)) (sym same),
+    ))
+    s many
 
-module _ (known : List ℕ) (k at : ℕ) (limits : List ℕ) where
-  pub out_one : {a : ℕ} → a ≡ known_at known k at 1 → get_or limits 1 0 ≤ a → false ≡ inside_at known k at limits
-  unfolding inside_at
-  out_one e h = rw (le-ltb (known_at known k at 1) (get_or limits 1 0) (omega (arith, e))) refl
+pub chunks_rows : (k : ℕ) (known : List ℕ) (s : _) → 0 < k → chunks_exact_size s ≡ k → chunks_exact_rest s ≡ known
+    → YieldsList (chunks_exact_steps {A = ℕ}) (λ x. x.now) s (known_rows k known)
+chunks_rows k known s many e d =
+    subst (λ (l : List (List ℕ)). YieldsList (chunks_exact_steps {A = ℕ}) (λ x. x.now) s l) (ap₂ known_rows e d) (chunks_left s (omega (arith, e)))
 
-  pub out_two : {a b : ℕ} → a ≡ known_at known k at 1 → a < get_or limits 1 0 → b ≡ known_at known k at 2 → get_or limits 2 0 ≤ b → false ≡ inside_at known k at limits
-  unfolding inside_at
-  out_two e h f l = rw (lt-ltb (known_at known k at 1) (get_or limits 1 0) (omega (arith, e)), le-ltb (known_at known k at 2) (get_or limits 2 0) (omega (arith, f))) refl
+-- there are no rows of width 0
+pub no_rows : (known limits : List ℕ) (k : ℕ) → k ≡ 0 → NoneInside (known_rows k known) limits
+unfolding pieces
+no_rows known limits k e x m t = mem_nil (subst (λ (l : List (List ℕ)). x ∈ l) (ap (λ (j : ℕ). known_rows j known) e ∙ ap (λ (n : ℕ). pieces 0 n known) (div-zero (length known))) m)
 
-  pub by_three : {a b d : ℕ} → a ≡ known_at known k at 1 → a < get_or limits 1 0 → b ≡ known_at known k at 2 → b < get_or limits 2 0 → d ≡ known_at known k at 3
-      → ltb d (get_or limits 3 0) ≡ inside_at known k at limits
-  unfolding inside_at
-  by_three e h f l g =
-      rw (lt-ltb (known_at known k at 1) (get_or limits 1 0) (omega (arith, e)), lt-ltb (known_at known k at 2) (get_or limits 2 0) (omega (arith, f)), g) refl
+-- THE NEAREST: what a run over the rows that are inside picks by component 1
 
-  tests : T (inside_at known k at limits) → (known_at known k at 2 < get_or limits 2 0) × (known_at known k at 3 < get_or limits 3 0)
-  unfolding inside_at
-  tests t =
-      let two = ltb (known_at known k at 2) (get_or limits 2 0) in
-      let three = ltb (known_at known k at 3) (get_or limits 3 0) in
-      let (a, b) = (T-both two three).0 ((T-both (ltb (known_at known k at 1) (get_or limits 1 0)) (both two three)).0 t).1 in
-      (ltb→lt (known_at known k at 2) (get_or limits 2 0) a, ltb→lt (known_at known k at 3) (get_or limits 3 0) b)
+module _ {S A : Type 0} {B : Type 0} {steps : S → Option A → S → Type 0} {v : A → B} {ys : List B} (p : Run steps) (e : YieldsList steps v p.from ys) (whole : p.whole ≡ true) where
+  items_are : map v p.items ≡ ys
+  unfolding YieldsRun
+  items_are =
+      let (t, y, ended) = p.gave.0 in
+      let (u, z) = ended whole in
+      (YieldsList-end e p.items t y None u refl z).0
 
-  below_two : T (inside_at known k at limits) → known_at known k at 2 < get_or limits 2 0
-  below_two t = (tests t).0
+  item_in : (k : ℕ) (x : A) → p.at k ≡ Some x → v x ∈ ys
+  unfolding YieldsRun
+  item_in k x h = subst (λ (l : List B). v x ∈ l) items_are (read p.items k (sym (p.gave.1 k) ∙ h))
+    where
+      read : (xs : List A) (k : ℕ) → slice_get xs k ≡ Some x → v x ∈ map v xs
+      read [] k h = cc
+      read (a ∷ xs) zero h = here cc
+      read (a ∷ xs) (suc k) h = there (read xs k h)
 
-  below_three : T (inside_at known k at limits) → known_at known k at 3 < get_or limits 3 0
-  below_three t = (tests t).1
+  item_low : (k : ℕ) (x : A) → p.at k ≡ Some x → k < length p.items
+  unfolding YieldsRun
+  item_low k x h = slice_get_within p.items k x (sym (p.gave.1 k) ∙ h)
 
--- The place of the row with the least component 1
+  item_out : (y : B) → y ∈ ys → (k : ℕ) × (x : A) × (p.at k ≡ Some x) × (v x ≡ y)
+  unfolding YieldsRun
+  item_out y m =
+      let (k, x, h, d) = find p.items (subst (λ (l : List B). y ∈ l) (sym items_are) m) in
+      (k, x, p.gave.1 k ∙ h, d)
+    where
+      find : (xs : List A) → y ∈ map v xs → (k : ℕ) × (x : A) × (slice_get xs k ≡ Some x) × (v x ≡ y)
+      find [] m = absurd (mem_nil m)
+      find (a ∷ xs) m = ⊎_elim
+          (λ d. (0, a, refl, sym d))
+          (λ i. let (k, x, h, d) = find xs i in (suc k, x, h, d))
+          (mem_cases m)
 
-module _ (known : List ℕ) (k : ℕ) (limits : List ℕ) where
-  pub placed_start : Placed known k limits 0 (length known)
-  placed_start = record {
-    none_inside = λ e i h. absurd (omega arith);
-    stands = λ n. absurd (n refl);
-    inside = λ n. absurd (n refl);
-    least = λ n i h t. absurd (omega arith);
-  }
+module _ (test : List ℕ → Bool) (x : List ℕ) where
+  filter_in : (rows : List (List ℕ)) → x ∈ rows → test x ≡ true → x ∈ filter test rows
+  filter_in [] m t = absurd (mem_nil m)
+  filter_in (y ∷ rows) m t = ⊎_elim
+      (λ e. first (test y) (ap test (sym e) ∙ t) (filter test rows) e)
+      (λ i. more (test y) (filter_in rows i t))
+      (mem_cases m)
+    where
+      first : (b : Bool) → b ≡ true → (l : List (List ℕ)) → x ≡ y → x ∈ cond b (y ∷ l) l
+      first true d l e = here e
+      first false d l e = cc
 
-  -- there are no rows of width 0
-  pub placed_nowhere : k ≡ 0 → Placed known k limits (length known / k) (length known)
-  placed_nowhere e = subst (λ (n : ℕ). Placed known k limits n (length known)) (sym (ap (λ (j : ℕ). length known / j) e ∙ div-zero (length known))) placed_start
+      more : (b : Bool) {l : List (List ℕ)} → x ∈ l → x ∈ cond b (y ∷ l) l
+      more true m = there m
+      more false m = m
 
-  -- the rows before, and the next
-  before : (i j : ℕ) → j < i + 1 → (j < i) ⊎ (j ≡ i)
-  before i j h = elim (ℕ_discrete j i) [ yes e ↦ inr e | no n ↦ inl (omega arith) ]
+  filter_out : (rows : List (List ℕ)) → x ∈ filter test rows → (x ∈ rows) × (test x ≡ true)
+  filter_out [] m = absurd (mem_nil m)
+  filter_out (y ∷ rows) m = split (test y) refl m (filter_out rows)
+    where
+      split : (b : Bool) → test y ≡ b → x ∈ cond b (y ∷ filter test rows) (filter test rows)
+          → (x ∈ filter test rows → (x ∈ rows) × (test x ≡ true)) → (x ∈ y ∷ rows) × (test x ≡ true)
+      split true t m rest = ⊎_elim (λ e. (here e, ap test e ∙ t)) (λ i. let (n, t) = rest i in (there n, t)) (mem_cases m)
+      split false t m rest = let (n, t) = rest m in (there n, t)
 
-  module _ (i at : ℕ) (p : Placed known k limits i at) where
-    -- row i is not inside
-    pub placed_past : inside_at known k (i * k) limits ≡ false → Placed known k limits (i + 1) at
-    placed_past e = record {
-      none_inside = λ z j h. ⊎_elim (λ l. p.none_inside z j l) (λ d. out j d) (before i j h);
-      stands = λ n. let (j, l, d) = p.stands n in (j, omega arith, d);
-      inside = p.inside;
-      least = λ n j h t. ⊎_elim (λ l. p.least n j l t) (λ d. absurd (out j d t)) (before i j h);
-    }
-      where
-        out : (j : ℕ) → j ≡ i → ¬ T (inside_at known k (j * k) limits)
-        out j d = subst (λ (x : ℕ). ¬ T (inside_at known k (x * k) limits)) (sym d) ((T_false (inside_at known k (i * k) limits)).1 e)
+some_at : {A : Type 0} {P : A → Type 0} (o : Option A) → IsSomeAnd o P → (x : A) × (o ≡ Some x) × P x
+some_at None h = absurd h
+some_at (Some x) h = (x, refl, h)
 
-    module _ (t : inside_at known k (i * k) limits ≡ true) where
-      -- the row that stands there is no worse
-      pub placed_kept : ¬ (at ≡ length known) → known_at known k at 1 ≤ known_at known k (i * k) 1 → Placed known k limits (i + 1) at
-      placed_kept n z = record {
-        none_inside = λ e. absurd (n e);
-        stands = λ _. let (j, l, d) = p.stands n in (j, omega arith, d);
-        inside = p.inside;
-        least = λ _ j h s. ⊎_elim (λ l. p.least n j l s)
-            (λ d. subst (λ (x : ℕ). known_at known k at 1 ≤ known_at known k (x * k) 1) (sym d) z) (before i j h);
+if_at : {A : Type 0} (P : A → Type 0) {x : A} {o : Option A} → o ≡ Some x → IfSome o P → P x
+if_at {A} P e h = subst (λ (z : Option A). IfSome z P) e h
+
+not_below : (b a : ℕ) → is_lt (nat_cmp b a) ≡ false → a ≤ b
+not_below b a e = grind (arith, nat_tests)
+
+module _ {S F : Type 0} {steps : S → Option (Bor (List ℕ)) → S → Type 0} (rows : List (List ℕ)) (limits : List ℕ) (p : Run steps)
+    (e : YieldsList steps (λ x. x.now) p.from (filter (λ x. inside_at x limits) rows)) (whole : p.whole ≡ true)
+    (g : Mut F (Bor (Bor (List ℕ)) × Unit {0}) ℕ) (f : F) (keeps : CallKeepsClosure g f) (key : (x : Bor (List ℕ)) (r : ℕ) → CalledAt g f x r f → r ≡ get_or x.now 1 0) where
+  pub nearest_of : (r : Option (Bor (List ℕ))) → MatchOption r (p.len ≡ 0) (λ m. AnyItem p (λ x. x ≡ m) × NoKeyBeyond p g f is_lt nat_cmp m)
+      → MatchOption r (NoneInside rows limits) (λ m. Nearest rows limits m.now)
+  nearest_of None h = λ x m t.
+      let (k, y, at, d) = item_out p e whole x (filter_in (λ x. inside_at x limits) x rows m ((T_true (inside_at x limits)).0 t)) in
+      absurd (omega (arith, h, p.long, item_low p e whole k y at))
+  nearest_of (Some m) ((k, low, is), least) =
+      let (x, at, d) = some_at (p.at k) is in
+      let (known, inside) = filter_out (λ x. inside_at x limits) m.now rows (subst (λ (y : Bor (List ℕ)). y.now ∈ filter (λ x. inside_at x limits) rows) d (item_in p e whole k x at)) in
+      let (a, called, beyond) = least keeps in
+      record {
+        known = known;
+        inside = (T_true (inside_at m.now limits)).1 inside;
+        least = λ y n t.
+            let (i, z, stands, same) = item_out p e whole y (filter_in (λ x. inside_at x limits) y rows n ((T_true (inside_at y limits)).0 t)) in
+            let (b, called', not_less) = if_at _ stands (beyond i) in
+            subst (λ (l : List ℕ). get_or m.now 1 0 ≤ get_or l 1 0) same (omega (arith, key m a called, key z b called', not_below b a not_less));
       }
 
-      module _ (few : i * k < length known) where
-        -- row i is the first that is inside, or better than the row that stands there
-        taken : ((j : ℕ) → j < i → T (inside_at known k (j * k) limits) → known_at known k (i * k) 1 ≤ known_at known k (j * k) 1)
-            → Placed known k limits (i + 1) (i * k)
-        taken best = record {
-          none_inside = λ e. absurd (omega (arith, e));
-          stands = λ _. (i, omega arith, refl);
-          inside = λ _. (T_true (inside_at known k (i * k) limits)).1 t;
-          least = λ _ j h s. ⊎_elim (λ l. best j l s)
-              (λ d. subst (λ (x : ℕ). known_at known k (i * k) 1 ≤ known_at known k (x * k) 1) (sym d) (le_refl (known_at known k (i * k) 1))) (before i j h);
-        }
+-- FALLS: a limit that is set at a row that is inside
+module _ (row limits : List ℕ) (t : T (inside_at row limits)) (four : length limits ≡ 4) (x : ℕ) where
+  below : (get_or row 2 0 < get_or limits 2 0) × (get_or row 3 0 < get_or limits 3 0)
+  unfolding inside_at
+  below =
+      let two = ltb (get_or row 2 0) (get_or limits 2 0) in
+      let three = ltb (get_or row 3 0) (get_or limits 3 0) in
+      let (a, b) = (T-both two three).0 ((T-both (ltb (get_or row 1 0) (get_or limits 1 0)) (both two three)).0 t).1 in
+      (ltb→lt (get_or row 2 0) (get_or limits 2 0) a, ltb→lt (get_or row 3 0) (get_or limits 3 0) b)
 
-        pub placed_first : at ≡ length known → Placed known k limits (i + 1) (i * k)
-        placed_first e = taken (λ j l s. absurd (p.none_inside e j l s))
+  pub falls_two : x ≡ get_or row 2 0 → get_or (set limits 2 x) 2 0 < get_or limits 2 0
+  falls_two e = omega (arith, get_or-set_same limits 2 x 0 (omega arith), below.0, e)
 
-        pub placed_less : ¬ (at ≡ length known) → known_at known k (i * k) 1 < known_at known k at 1 → Placed known k limits (i + 1) (i * k)
-        placed_less n z = taken (λ j l s. omega (arith, p.least n j l s))
-
--- FALLS: a limit that is set at the row that was found
-module _ (known : List ℕ) (k : ℕ) (limits : List ℕ) (n at : ℕ) (p : Placed known k limits n at) (d : ¬ (at ≡ length known)) (four : length limits ≡ 4) (x : ℕ) where
-  pub falls_two : x ≡ known_at known k at 2 → get_or (set limits 2 x) 2 0 < get_or limits 2 0
-  falls_two e = omega (arith, get_or-set_same limits 2 x 0 (omega arith), below_two known k at limits (p.inside d), e)
-
-  pub falls_three : x ≡ known_at known k at 3 → (lower : List ℕ) → lower ≡ set limits 3 x → get_or lower 3 0 < get_or limits 3 0
+  pub falls_three : x ≡ get_or row 3 0 → (lower : List ℕ) → lower ≡ set limits 3 x → get_or lower 3 0 < get_or limits 3 0
   falls_three e lower f = subst (λ (l : List ℕ). get_or l 3 0 < get_or limits 3 0) (sym f)
-      (omega (arith, get_or-set_same limits 3 x 0 (omega arith), below_three known k at limits (p.inside d), e))
+      (omega (arith, get_or-set_same limits 3 x 0 (omega arith), below.1, e))
 
 -- What it tells of the rows
 
@@ -182,77 +223,54 @@ inside_three x y z a b d = ap (both (ltb a x)) (ap (both (ltb b y)) (last (ltb d
     last true = refl
     last false = refl
 
-module _ (known : List ℕ) (k : ℕ) (many : 0 < k) (few : k ≤ 4) where
-  -- component c of the row at a place
-  pub row_at_lem : (at c : ℕ) → get_or (take k (drop at known)) c 0 ≡ known_at known k at c
-  row_at_lem at c = elim (dec_lt c k) [
-    | yes h ↦ rw (lt-ltb c k h) (get_or-take k (drop at known) c 0 h ∙ get_or-drop at known c 0)
-    | no h ↦ rw (le-ltb c k (omega arith)) (get_or-eq_default (take k (drop at known)) 0 (omega (arith, length-take k (drop at known))))
-  ]
+pieces_long : (k n : ℕ) (t x : List ℕ) → n * k ≤ length t → x ∈ pieces k n t → length x ≡ k
+unfolding pieces
+pieces_long k zero t x fits m = absurd (mem_nil m)
+pieces_long k (suc n) t x fits m = ⊎_elim
+    (λ e. ap length e ∙ (simp length-take (omega (arith, suc-mul n k))))
+    (λ i. pieces_long k n (drop k t) x (omega (arith, suc-mul n k, length-drop k t)) i)
+    (mem_cases m)
 
-  pub row_long : (i : ℕ) → i < length known / k → length (take k (drop (i * k) known)) ≡ k
-  row_long i h = omega (
-    arith,
-    length-take k (drop (i * k) known),
-    length-drop (i * k) known,
-    row_ends i (length known / k) k (length known) h (rows_end (length known / k) k (length known) (le_refl (length known / k))),
-  )
+pub row_long : (k : ℕ) (known x : List ℕ) → x ∈ known_rows k known → length x ≡ k
+row_long k known x m = pieces_long k (length known / k) known x (rows_end (length known / k) k (length known) (le_refl (length known / k))) m
 
-  module _ (limits : List ℕ) (four : length limits ≡ 4) (past : OpenPast k limits) where
-    pub inside_row : (at : ℕ) → length (take k (drop at known)) ≡ k
-        → inside_at known k at limits ≡ inside (rest_of (take k limits)) (rest_of (take k (drop at known)))
-    unfolding inside_at
-    inside_row at long =
-        inside_three (get_or limits 1 0) (get_or limits 2 0) (get_or limits 3 0) (known_at known k at 1) (known_at known k at 2) (known_at known k at 3)
-        ∙ inside_take (k - 1) tops vs refl below
-        ∙ ap₂ inside (sym (ap (λ (n : ℕ). rest_of (take n limits)) next ∙ rest_take (k - 1) limits ∙ ap (take (k - 1)) (rest_is 3 limits four (omega arith)))) (sym row)
-      where
-        tops : List ℕ
-        tops = get_or limits 1 0 ∷ get_or limits 2 0 ∷ get_or limits 3 0 ∷ []
+module _ (k : ℕ) (many : 0 < k) (few : k ≤ 4) (limits : List ℕ) (four : length limits ≡ 4) (past : OpenPast k limits) where
+  pub inside_row : (x : List ℕ) → length x ≡ k → inside_at x limits ≡ inside (rest_of (take k limits)) (rest_of x)
+  unfolding inside_at
+  inside_row x long =
+      inside_three (get_or limits 1 0) (get_or limits 2 0) (get_or limits 3 0) (get_or x 1 0) (get_or x 2 0) (get_or x 3 0)
+      ∙ inside_take (k - 1) tops vs refl under
+      ∙ ap₂ inside (sym (ap (λ (n : ℕ). rest_of (take n limits)) next ∙ rest_take (k - 1) limits ∙ ap (take (k - 1)) (rest_is 3 limits four (omega arith))))
+      (sym (rest_is (k - 1) x (long ∙ next) (omega arith)))
+    where
+      tops : List ℕ
+      tops = get_or limits 1 0 ∷ get_or limits 2 0 ∷ get_or limits 3 0 ∷ []
 
-        vs : List ℕ
-        vs = known_at known k at 1 ∷ known_at known k at 2 ∷ known_at known k at 3 ∷ []
+      vs : List ℕ
+      vs = get_or x 1 0 ∷ get_or x 2 0 ∷ get_or x 3 0 ∷ []
 
-        next : k ≡ suc (k - 1)
-        next = omega arith
+      next : k ≡ suc (k - 1)
+      next = omega arith
 
-        low : (c : ℕ) → k ≤ c → c < 4 → known_at known k at c < get_or limits c 0
-        low c h b = rw (le-ltb c k h) (past c h b)
+      low : (c : ℕ) → k ≤ c → c < 4 → get_or x c 0 < get_or limits c 0
+      low c h b = let out : length x ≤ c = omega arith in omega (arith, past c h b, get_or-eq_default x 0 out)
 
-        below : (c : ℕ) → k - 1 ≤ c → c < 3 → get_or vs c 0 < get_or tops c 0
-        below zero l b = low 1 (omega arith) (omega arith)
-        below (suc zero) l b = low 2 (omega arith) (omega arith)
-        below (suc (suc zero)) l b = low 3 (omega arith) (omega arith)
-        below (suc (suc (suc c))) l b = absurd (omega arith)
+      under : (c : ℕ) → k - 1 ≤ c → c < 3 → get_or vs c 0 < get_or tops c 0
+      under zero l b = low 1 (omega arith) (omega arith)
+      under (suc zero) l b = low 2 (omega arith) (omega arith)
+      under (suc (suc zero)) l b = low 3 (omega arith) (omega arith)
+      under (suc (suc (suc c))) l b = absurd (omega arith)
 
-        row : rest_of (take k (drop at known)) ≡ take (k - 1) vs
-        row = rest_is (k - 1) (take k (drop at known)) (long ∙ next) (omega arith) ∙ (rw (row_at_lem at 1, row_at_lem at 2, row_at_lem at 3))
+  module _ (known : List ℕ) where
+    row_inside : (x : List ℕ) → x ∈ known_rows k known → T (inside (rest_of (take k limits)) (rest_of x)) → T (inside_at x limits)
+    row_inside x m t = subst T (sym (inside_row x (row_long k known x m))) t
 
-    -- row i is inside
-    row_inside : (i : ℕ) → i < length known / k → T (inside (rest_of (take k limits)) (rest_of (take k (drop (i * k) known)))) → T (inside_at known k (i * k) limits)
-    row_inside i h t = subst (λ (b : Bool). T b) (sym (inside_row (i * k) (row_long i h))) t
+    pub clean_rows : NoneInside (known_rows k known) limits → Clean (known_rows k known) (take k limits)
+    clean_rows none x m t = none x m (row_inside x m t)
 
-    module _ (at : ℕ) (p : Placed known k limits (length known / k) at) where
-      pub placed_clean : at ≡ length known → Clean (known_rows k known) (take k limits)
-      placed_clean e x m t =
-          let (i, h, d) = piece_out k (length known / k) known x m in
-          p.none_inside e i h (row_inside i h (subst (λ (y : List ℕ). T (inside (rest_of (take k limits)) (rest_of y))) d t))
+    module _ (row : List ℕ) (p : Nearest (known_rows k known) limits row) where
+      pub nearest_inside : T (inside (rest_of (take k limits)) (rest_of row))
+      nearest_inside = subst T (inside_row row (row_long k known row p.known)) p.inside
 
-      module _ (n : ¬ (at ≡ length known)) where
-        abbrev pub row : List ℕ
-        row = take k (drop at known)
-
-        pub placed_in : row ∈ known_rows k known
-        placed_in = let (i, h, e) = p.stands n in subst (λ (j : ℕ). take k (drop j known) ∈ known_rows k known) (sym e) (piece_in k (length known / k) known i h)
-
-        pub placed_long : length row ≡ k
-        placed_long = let (i, h, e) = p.stands n in subst (λ (j : ℕ). length (take k (drop j known)) ≡ k) (sym e) (row_long i h)
-
-        pub placed_inside : T (inside (rest_of (take k limits)) (rest_of row))
-        placed_inside = subst (λ (b : Bool). T b) (inside_row at placed_long) (p.inside n)
-
-        pub placed_least : (x : List ℕ) → x ∈ known_rows k known → T (inside (rest_of (take k limits)) (rest_of x)) → get_or row 1 0 ≤ get_or x 1 0
-        placed_least x m t =
-            let (i, h, d) = piece_out k (length known / k) known x m in
-            let least = p.least n i h (row_inside i h (subst (λ (y : List ℕ). T (inside (rest_of (take k limits)) (rest_of y))) d t)) in
-            subst (λ (y : List ℕ). get_or row 1 0 ≤ get_or y 1 0) (sym d) (rw (row_at_lem at 1, row_at_lem (i * k) 1) least)
+      pub nearest_least : (x : List ℕ) → x ∈ known_rows k known → T (inside (rest_of (take k limits)) (rest_of x)) → get_or row 1 0 ≤ get_or x 1 0
+      nearest_least x m t = p.least x m (row_inside x m t)

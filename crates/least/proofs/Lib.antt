@@ -1,4 +1,3 @@
-pub mod Compared
 pub mod Known
-pub mod Regions
 pub mod Vectors
+pub mod Regions

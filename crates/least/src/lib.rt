@@ -2,46 +2,22 @@
 //! other, each as far as trees are found; the boxes leave out what the known vectors meet in their components from 1 on.
 #![tactic(auto)]
 
-ghost use Rattle.std.specs.Prelude.{◌≡◌, ◌/◌, ◌<◌, min, suc, T, length, set, take};
+ghost use Rattle.std.specs.Prelude.{◌≡◌, ◌<◌, MatchOption, min, suc, T, get_or, set};
 ghost use Rattle.costs.specs.Costs.{vector_less};
 ghost use Rattle.completions.specs.Boxes.{inside};
 ghost use Rattle.completions.proofs.Least.{Asked, Box, LeastIn, Lowered, Lowest, Open, Region};
-ghost use Rattle.chosen.specs.Chosen.{rows_of};
-ghost use Rattle.least.specs.Least.{OnGround, Placed, inside_at, known_at, known_rows, least_of};
+ghost use Rattle.least.specs.Least.{Nearest, NoneInside, inside_at, known_rows, least_of};
+ghost use Rattle.least.specs.Trees.{OnTrees, count_of, first_of};
 
 use chosen::Chosen;
+use find::Space;
 
-/// A vector that may be missing; its places past the last criterion are 0.
+/// The trees of a space that have all must rows; `free` flags the other rows that lie between nodes.
 #[derive(Clone, Copy)]
-pub struct Best {
-    pub some: bool,
-    pub vector: [u64; 4],
-}
-
-// The vector of a tree with all must rows inside the limits.
-fn vector_in(
-    firsts: &[u8],
-    seconds: &[u8],
-    limit: u8,
-    kinds: [u8; 4],
-    k: u8,
-    costs: &[u32],
-    leads: &[u8],
-    musts: Chosen,
-    free: [u8; 256],
-    limits: [u64; 4],
-) -> Best
-    ensures { OnGround firsts.now seconds.now limit kinds k costs.now leads.now (rows_of musts) free limits
-        (λ Of. Asked Of (take k limits) (least_of k result)) }
-{
-    let found = find::find(
-        firsts, seconds, limit, kinds, k, costs, leads, limits, musts, free,
-    );
-    let rows = found.rows;
-    Best {
-        some: found.some,
-        vector: tally::vector(kinds, k, costs, leads, rows),
-    }
+pub struct Trees<'a> {
+    pub space: Space<'a>,
+    pub musts: Chosen,
+    pub free: [u8; 256],
 }
 
 // The limits with another limit of component c.
@@ -55,288 +31,147 @@ fn with_limit(limits: [u64; 4], c: usize, x: u64) -> [u64; 4]
     next
 }
 
-// The vector lowered in component c as far as trees are found inside the limits.
-fn lowered(
-    firsts: &[u8],
-    seconds: &[u8],
-    limit: u8,
-    kinds: [u8; 4],
-    k: u8,
-    costs: &[u32],
-    leads: &[u8],
-    musts: Chosen,
-    free: [u8; 256],
-    limits: [u64; 4],
-    start: [u64; 4],
-    c: usize,
-) -> [u64; 4]
-    ensures { OnGround firsts.now seconds.now limit kinds k costs.now leads.now (rows_of musts) free limits
-        (λ Of. (c < k → Of (take k start) → T (inside (take k limits) (take k start))
-        → Lowest Of (take k limits) c (take k result))) }
-{
-    let mut v = start;
-    if 4 <= c {
-        return v;
-    }
-    loop {
-        let here = v[c];
-        let next = vector_in(
-            firsts,
-            seconds,
-            limit,
-            kinds,
-            k,
-            costs,
-            leads,
-            musts,
-            free,
-            with_limit(limits, c, here),
-        );
-        if next.some {} else {
-            return v;
-        }
-        let w = next.vector;
-        // a tree inside the limits is below v here, so that the test never holds
-        if here <= w[c] {
-            return v;
-        }
-        v = w;
-    }
-}
-
-// How many components are compared.
-fn criteria(k: u8) -> usize
-    ensures { result ≡ min k 4 }
-{
-    if k < 4 { k as usize } else { 4 }
-}
-
 // One more, but no more than the limit.
 fn above(x: u64, limit: u64) -> u64
     ensures { result ≡ min limit (suc x) }
 {
-    if x < limit { x + 1 } else { limit }
+    limit.min(x.saturating_add(1))
 }
 
-// The least vector inside the limits.
-fn least_inside(
-    firsts: &[u8],
-    seconds: &[u8],
-    limit: u8,
-    kinds: [u8; 4],
-    k: u8,
-    costs: &[u32],
-    leads: &[u8],
-    musts: Chosen,
-    free: [u8; 256],
-    limits: [u64; 4],
-) -> Best
-    ensures { OnGround firsts.now seconds.now limit kinds k costs.now leads.now (rows_of musts) free limits
-        (λ Of. LeastIn Of (take k limits) (least_of k result)) }
+// Component c of a known vector; 0 past its last one.
+fn component(row: &[u32], c: usize) -> u64
+    ensures { result ≡ get_or row.now c 0 }
 {
-    let first = vector_in(
-        firsts, seconds, limit, kinds, k, costs, leads, musts, free, limits,
-    );
-    if first.some {} else {
-        return first;
-    }
-    let n = criteria(k);
-    let mut v = first.vector;
-    let mut lower = limits;
-    let mut c: usize = 0;
-    while c < n {
-        v = lowered(
-            firsts, seconds, limit, kinds, k, costs, leads, musts, free, lower, v, c,
-        );
-        lower[c] = above(v[c], lower[c]);
-        c += 1;
-    }
-    Best {
-        some: true,
-        vector: v,
-    }
+    u64::from(slices::at(row, c, 0))
 }
 
-// Whether a comes before b, by the first of k components that differs.
-fn is_less(k: u8, a: [u64; 4], b: [u64; 4]) -> bool
-    ensures { result ≡ vector_less (take k a) (take k b) }
+// Whether a known vector is inside the limits in its components from 1 on.
+#[tactic(auto, unfolding(crate::specs::Least::inside_at))]
+fn is_inside(row: &[u32], limits: [u64; 4]) -> bool
+    ensures { result ≡ inside_at row.now limits }
 {
-    let n = criteria(k);
-    let mut c: usize = 0;
-    while c < n {
-        if a[c] < b[c] {
-            return true;
+    component(row, 1) < limits[1] && component(row, 2) < limits[2] && component(row, 3) < limits[3]
+}
+
+// The known vector that is inside, with the least component 1.
+fn nearest(known: &[u32], k: u8, limits: [u64; 4]) -> Option<&[u32]>
+    ensures { MatchOption result (NoneInside (known_rows k known.now) limits) (λ row. Nearest (known_rows k known.now) limits row.now) }
+{
+    if k == 0 {
+        return None;
+    }
+    let rows = known.chunks_exact(k as usize);
+    rows.filter(|row| is_inside(row, limits))
+        .min_by_key(|row| component(row, 1))
+}
+
+impl Trees<'_> {
+    // The vector of a tree inside the limits.
+    fn vector_in(self, limits: [u64; 4]) -> Option<[u64; 4]>
+        ensures { OnTrees self.entry limits (λ Of. Asked Of (first_of self.entry limits) (least_of (count_of self.entry) result)) }
+    {
+        let rows = self.space.find(limits, self.musts, self.free)?;
+        Some(self.space.criteria.vector(rows))
+    }
+
+    // The vector lowered in component c as far as trees are found inside the limits.
+    fn lowered(&self, limits: [u64; 4], start: [u64; 4], c: usize) -> [u64; 4]
+        ensures { OnTrees self.now limits (λ Of. (c < count_of self.now → Of (first_of self.now start) → T (inside (first_of self.now limits) (first_of self.now start))
+            → Lowest Of (first_of self.now limits) c (first_of self.now result))) }
+    {
+        let mut v = start;
+        if 4 <= c {
+            return v;
         }
-        if b[c] < a[c] {
-            return false;
-        }
-        c += 1;
-    }
-    false
-}
-
-// The lesser of the best vector so far and the least inside the limits.
-fn lesser(
-    firsts: &[u8],
-    seconds: &[u8],
-    limit: u8,
-    kinds: [u8; 4],
-    k: u8,
-    costs: &[u32],
-    leads: &[u8],
-    musts: Chosen,
-    free: [u8; 256],
-    limits: [u64; 4],
-    best: Best,
-) -> Best
-    ensures { OnGround firsts.now seconds.now limit kinds k costs.now leads.now (rows_of musts) free limits
-        (λ Of. Lowered Of (Box (take k limits)) (Box (take k limits)) (least_of k best) (least_of k result)) }
-{
-    if best.some {} else {
-        return least_inside(
-            firsts, seconds, limit, kinds, k, costs, leads, musts, free, limits,
-        );
-    }
-    let v = best.vector;
-    let top = above(v[0], limits[0]);
-    let next = least_inside(
-        firsts,
-        seconds,
-        limit,
-        kinds,
-        k,
-        costs,
-        leads,
-        musts,
-        free,
-        with_limit(limits, 0, top),
-    );
-    if next.some {} else {
-        return best;
-    }
-    let w = next.vector;
-    if is_less(k, w, v) {
-        return next;
-    }
-    best
-}
-
-// The component c of the known vector that stands at a place; 0 past the last component.
-fn known_at(known: &[u32], k: u8, at: usize, c: u8) -> u64
-    ensures { result ≡ known_at known.now k at c }
-{
-    if c < k {
-        if at < known.len() {
-            let place = at + c as usize;
-            if place < known.len() {
-                return known[place] as u64;
+        while let Some(w) = self.vector_in(with_limit(limits, c, v[c])) {
+            // a tree inside the limits is below v here, so that the test never holds
+            if v[c] <= w[c] {
+                return v;
             }
+            v = w;
         }
+        v
     }
-    0
-}
 
-// Whether the known vector at a place is inside the limits in its components from 1 on.
-fn is_inside(known: &[u32], k: u8, at: usize, limits: [u64; 4]) -> bool
-    ensures { result ≡ inside_at known.now k at limits }
-{
-    if known_at(known, k, at, 1) < limits[1] {
-        if known_at(known, k, at, 2) < limits[2] {
-            return known_at(known, k, at, 3) < limits[3];
+    // The least vector inside the limits.
+    fn least_inside(&self, limits: [u64; 4]) -> Option<[u64; 4]>
+        ensures { OnTrees self.now limits (λ Of. LeastIn Of (first_of self.now limits) (least_of (count_of self.now) result)) }
+    {
+        let mut v = self.vector_in(limits)?;
+        let mut lower = limits;
+        for c in 0..self.space.criteria.count() as usize {
+            v = self.lowered(lower, v, c);
+            lower[c] = above(v[c], lower[c]);
         }
+        Some(v)
     }
-    false
-}
 
-// The place of a known vector that is inside, with the least component 1; the length of the table where there is none.
-fn place_inside(known: &[u32], k: u8, limits: [u64; 4]) -> usize
-    ensures { Placed known.now k limits (length known.now / k) result }
-{
-    let step = k as usize;
-    let mut best = known.len();
-    if step == 0 {
-        return best;
+    // Whether a comes before b, by the first component that differs.
+    fn is_less(&self, a: [u64; 4], b: [u64; 4]) -> bool
+        ensures { result ≡ vector_less (first_of self.now a) (first_of self.now b) }
+    {
+        let n = self.space.criteria.count() as usize;
+        a[..n] < b[..n]
     }
-    let n = known.len() / step;
-    let mut i: usize = 0;
-    while i < n {
-        let here = i * step;
-        i += 1;
-        if is_inside(known, k, here, limits) {
-            if best == known.len() {
-                best = here;
-            } else {
-                if known_at(known, k, here, 1) < known_at(known, k, best, 1) {
-                    best = here;
-                }
+
+    // The lesser of the best vector so far and the least inside the limits.
+    fn lesser(&self, limits: [u64; 4], best: Option<[u64; 4]>) -> Option<[u64; 4]>
+        ensures { OnTrees self.now limits
+            (λ Of. Lowered Of (Box (first_of self.now limits)) (Box (first_of self.now limits)) (least_of (count_of self.now) best) (least_of (count_of self.now) result)) }
+    {
+        let Some(v) = best else {
+            return self.least_inside(limits);
+        };
+        let top = above(v[0], limits[0]);
+        let next = self.least_inside(with_limit(limits, 0, top));
+        let Some(w) = next else {
+            return best;
+        };
+        if self.is_less(w, v) { next } else { best }
+    }
+
+    /// The lesser of the best vector so far and the least inside the limits that no known vector meets in its components from 1 on, of those that are nowhere
+    /// below `from`: what is below it has been searched already.
+    pub fn least(
+        &self,
+        known: &[u32],
+        limits: [u64; 4],
+        from: [u64; 4],
+        start: Option<[u64; 4]>,
+    ) -> Option<[u64; 4]>
+        ensures { OnTrees self.now limits
+            (λ Of. Lowered Of
+            (Open (known_rows (count_of self.now) known.now) (first_of self.now limits))
+            (Region (known_rows (count_of self.now) known.now) from (first_of self.now limits))
+            (least_of (count_of self.now) start) (least_of (count_of self.now) result)) }
+    {
+        let k = self.space.criteria.k;
+        let mut best = start;
+        let mut lows = from;
+        let mut lower = limits;
+        loop {
+            let Some(row) = nearest(known, k, lower) else {
+                return self.lesser(lower, best);
+            };
+            if k < 2 {
+                return best;
             }
+            let one = component(row, 1);
+            if lows[1] < one {
+                best = self.lesser(with_limit(lower, 1, one), best);
+                lows[1] = one;
+            }
+            if k < 3 {
+                return best;
+            }
+            let three = component(row, 3);
+            let part = with_limit(lower, 3, three);
+            lower[2] = component(row, 2);
+            if three <= lows[3] {
+                continue;
+            }
+            best = self.least(known, part, lows, best);
+            lows[3] = three;
         }
-    }
-    best
-}
-
-/// The lesser of the best vector so far and the least inside the limits that no known vector meets in its components from 1 on, of those that are nowhere
-/// below `from`: what is below it has been searched already.
-pub fn least(
-    firsts: &[u8],
-    seconds: &[u8],
-    limit: u8,
-    kinds: [u8; 4],
-    k: u8,
-    costs: &[u32],
-    leads: &[u8],
-    musts: Chosen,
-    free: [u8; 256],
-    known: &[u32],
-    limits: [u64; 4],
-    from: [u64; 4],
-    start: Best,
-) -> Best
-    ensures { OnGround firsts.now seconds.now limit kinds k costs.now leads.now (rows_of musts) free limits
-        (λ Of. Lowered Of (Open (known_rows k known.now) (take k limits)) (Region (known_rows k known.now) from (take k limits)) (least_of k start) (least_of k result)) }
-{
-    let mut best = start;
-    let mut lows = from;
-    let mut lower = limits;
-    loop {
-        let at = place_inside(known, k, lower);
-        if at == known.len() {
-            return lesser(
-                firsts, seconds, limit, kinds, k, costs, leads, musts, free, lower, best,
-            );
-        }
-        if k < 2 {
-            return best;
-        }
-        let one = known_at(known, k, at, 1);
-        if lows[1] < one {
-            best = lesser(
-                firsts,
-                seconds,
-                limit,
-                kinds,
-                k,
-                costs,
-                leads,
-                musts,
-                free,
-                with_limit(lower, 1, one),
-                best,
-            );
-            lows[1] = one;
-        }
-        if k < 3 {
-            return best;
-        }
-        let three = known_at(known, k, at, 3);
-        let part = with_limit(lower, 3, three);
-        lower[2] = known_at(known, k, at, 2);
-        if three <= lows[3] {
-            continue;
-        }
-        best = least(
-            firsts, seconds, limit, kinds, k, costs, leads, musts, free, known, part, lows, best,
-        );
-        lows[3] = three;
     }
 }

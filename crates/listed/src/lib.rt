@@ -10,19 +10,17 @@ ghost use Rattle.network.specs.Answers.{opened_of};
 ghost use Rattle.network_file.specs.File.{file_checks};
 ghost use Rattle.listed.specs.Listed.{listed_call};
 
-use network::Opened;
+use chart::Chart;
+use fields::Header;
+use refusals::{Refusal, check};
 
 /// Open's checks, then 12; the sizes of a file whose network has a tree. An empty chart becomes that of the file.
-pub fn listed(file: &[u8], chart: &mut [u64; chart::LENGTH]) -> Opened
-    ensures { (Blank chart.old → opened_of result ≡ listed_call file.now)
-        × (first_unmet (file_checks file.now) ≡ none → chart.new ≡ file_chart_on file.now chart.old) }
+pub fn listed(file: &[u8], chart: &mut Chart) -> Result<Header, Refusal>
+    ensures { (Blank chart.old.words → opened_of result ≡ listed_call file.now)
+        × (first_unmet (file_checks file.now) ≡ none → chart.new.words ≡ file_chart_on file.now chart.old.words) }
 {
-    let opened = network::open(file);
-    let Opened::Header(_) = opened else {
-        return opened;
-    };
+    let header = network::open(file)?;
     charting::of_file(file, chart);
-    let first = walk::first(chart);
-    let some = first.some;
-    if some { opened } else { Opened::Refused(12) }
+    check(walk::first(chart).is_some(), Refusal::NoTree)?;
+    Ok(header)
 }

@@ -8,3 +8,5 @@ pub mod Orders
 pub mod Ascending
 pub mod Ranges
 pub mod Drops
+pub mod Runs
+pub mod Library

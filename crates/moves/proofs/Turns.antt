@@ -1,7 +1,6 @@
 -- The loop that moves on by parts: before its first turn (`kept_start`), where a part gets fewer trees than it has places for (`kept_short`), after a turn, which
 -- keeps the part's last tree (`kept_next`), and at its end (`kept_all`).
 use mathlib.Core.Path.{◌∙◌, ◌≡◌, ap, subst, sym}
-use mathlib.Core.Bool.{false, true}
 use mathlib.Core.Option.{none, some}
 use mathlib.Core.List.{List, ◌++◌}
 use Prim.Native.Nat.{◌*◌, ◌+◌, ◌-◌, ◌<◌, ◌≤◌, min, pred, suc, ℕ}
@@ -22,20 +21,11 @@ use Rattle.graph.proofs.Parts.{part_distinct}
 use Rattle.operations.specs.Operations.{Paged}
 use Rattle.pages.proofs.TreePages.{Starts}
 use Rattle.pages.specs.Pages.{page_after, page_count, rest_after}
-use Rattle.moves.specs.Tree.{tree_of}
-use Rattle.moves.specs.declared.Tree.{Tree}
 use Rattle.moves.proofs.Parts.{part_full, part_short}
-use Rattle.moves.proofs.Trees.{tree_none, tree_some}
 
--- a tree that may be missing, at a place of a list: where it is missing the list is over behind it too, else its rows stand there
-module _ (t : Tree) (w : ℕ) (L : List (List ℕ)) (i : ℕ) (e : tree_of w t ≡ get_elem? L i) where
-  pub tree_missing : t.some ≡ false → (n : ℕ) → tree_of w t ≡ get_elem? L (i + n)
-  tree_missing gone n =
-      let past = none_past L i (tree_none w t e gone) in
-      rw gone (sym (at_past L (i + n) (omega (arith, past))))
-
-  pub tree_there : t.some ≡ true → (v : ℕ) → v ≡ w → get_elem? L i ≡ some (take v t.rows)
-  tree_there there v same = rw same (tree_some w t e there)
+-- where there is no tree at a place of a list, there is none behind it
+pub none_behind : (L : List (List ℕ)) (i n : ℕ) → none ≡ get_elem? L i → none ≡ get_elem? L (i + n)
+none_behind L i n e = let past = none_past L i (sym e) in sym (at_past L (i + n) (omega arith))
 
 -- what holds at each turn: of a chart whose trees can be listed, the rows are those of the tree so many moves behind the first as are made
 module _ (c : List ℕ) (moves w : ℕ) (rows₀ : List ℕ) where

@@ -1,9 +1,9 @@
 -- The code's tree that may be missing.
+use Rattle.std.specs.Prelude.{None, Some, List, ℕ, take}
+use Rattle.std.specs.declared.option.Option as code
 use Rattle.std.proofs.Math.Option.{Option, none, some}
-use Rattle.std.specs.Prelude.{List, ℕ, take}
-use Rattle.lists.specs.Lists.{pick}
-use Rattle.moves.specs.declared.Tree.{Tree}
 
 -- the rows of a tree of w rows, if it is there
-abbrev pub tree_of : ℕ → Tree → Option (List ℕ)
-tree_of w t = pick t.some (some (take w t.rows)) none
+abbrev pub tree_of : ℕ → code.Option (List ℕ) → Option (List ℕ)
+tree_of w (Some rows) = some (take w rows)
+tree_of w None = none

@@ -25,20 +25,20 @@ use Rattle.offices.proofs.Calls.{Good, count_few}
 use Rattle.offices.proofs.Parts.{part_back, part_long}
 use Rattle.office.specs.Answers.{note_by, note_call}
 
--- As the code lends the parts and the path's rows, and gets the parts back
+-- As the code lends the parts, and gets them back
 
-module _ (office : ℕ) (counts : Counts) (lent : FrontTables) (v p : List ℕ) (end : EnterEnd) (outcome : Outcome Noted) {tree : List ℕ} (tree_is_lem : tree ≡ p) where
+module _ (office : ℕ) (counts : Counts) (lent : FrontTables) (v p : List ℕ) (end : EnterEnd) (outcome : Outcome Noted) where
   abbrev a : ℕ
   a = length lent.costs / 2
 
   abbrev b : ℕ
   b = length lent.witnesses / 2
 
-  pub first_noted : office ≡ 1 → end ≡ enter_call (take a lent.costs) (take b lent.witnesses) counts.first v tree → outcome ≡ note_by end.answer counts.first
+  pub first_noted : office ≡ 1 → end ≡ enter_call (take a lent.costs) (take b lent.witnesses) counts.first v p → outcome ≡ note_by end.answer counts.first
       → record { outcome = outcome; buffers = record { costs = end.costs ++ drop a lent.costs; witnesses = end.witnesses ++ drop b lent.witnesses } }
       ≡ note_call office counts lent (record { vector = v; path = p })
   unfolding note_call
-  first_noted q is said = rw (said, is, tree_is_lem, q)
+  first_noted q is said = rw (said, is, q)
 
   -- nothing stands behind the second half
   behind : (t : List ℕ) (n : ℕ) → drop (length t - n) (drop n t) ≡ []
@@ -48,7 +48,7 @@ module _ (office : ℕ) (counts : Counts) (lent : FrontTables) (v p : List ℕ) 
   whole t n = take_all (length t - n) (drop n t) (simp length-drop (omega arith))
 
   pub second_noted : ¬ (office ≡ 1)
-      → end ≡ enter_call (take (length lent.costs - a) (drop a lent.costs)) (take (length lent.witnesses - b) (drop b lent.witnesses)) counts.second v tree
+      → end ≡ enter_call (take (length lent.costs - a) (drop a lent.costs)) (take (length lent.witnesses - b) (drop b lent.witnesses)) counts.second v p
       → outcome ≡ note_by end.answer counts.second
       → record {
         outcome = outcome;
@@ -59,7 +59,7 @@ module _ (office : ℕ) (counts : Counts) (lent : FrontTables) (v p : List ℕ) 
       } ≡ note_call office counts lent (record { vector = v; path = p })
   unfolding note_call
   second_noted n is said =
-      rw (said, behind lent.costs a, behind lent.witnesses b, append-nil end.costs, append-nil end.witnesses, is, tree_is_lem)
+      rw (said, behind lent.costs a, behind lent.witnesses b, append-nil end.costs, append-nil end.witnesses, is)
       (rw (whole lent.costs a, whole lent.witnesses b, ne_eqb office 1 n))
 
 -- Of tables of exactly 2 × h rows

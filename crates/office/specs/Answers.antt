@@ -1,15 +1,18 @@
--- What each case of the code's answer says in document 02's terms; and what entering in a half of both tables comes to.
-use Rattle.std.specs.Prelude.{false, true, ◌/◌, ℕ, length}
+-- What the code's answer says in document 02's terms; and what entering in a half of both tables comes to.
+use Rattle.std.specs.Prelude.{false, true, Result, ◌/◌, ℕ, length}
 use Rattle.checks.specs.Checks.{Ended, Outcome, answered, refused}
+use Rattle.refusals.specs.Refusals.{outcome_of}
+use Rattle.refusals.specs.declared.Refusal.{Refusal}
 use Rattle.table.specs.Enter.{Entering, Row, enter_call, entered, full, met, unfit}
 use Rattle.operations.specs.Operations.{FrontTables}
 use Rattle.offices.specs.Offices.{Counts, Noted, count_of, half_of, part_of, with_part}
-use Rattle.office.specs.declared.OfficeAnswer.{OfficeAnswer}
-use Rattle.office.specs.declared.OfficeAnswer.TheVariants as answer
+use Rattle.office.specs.declared.Note.{Note}
 
-abbrev pub noted_of : OfficeAnswer → Outcome Noted
-noted_of (answer.Rows new count) = answered (record { entered = new; count = count })
-noted_of (answer.Refused e) = refused e
+abbrev pub note_in : Note → Noted
+note_in n = record { entered = n.entered; count = n.count }
+
+abbrev pub noted_of : Result Note Refusal → Outcome Noted
+noted_of = outcome_of note_in
 
 -- of a half of which so many rows were filled
 abbrev pub note_by : Entering → ℕ → Outcome Noted

@@ -4,17 +4,16 @@
 ghost use Rattle.std.specs.Prelude.{◌≡◌, ◌*◌, ◌<◌, ◌≤◌, eqb};
 ghost use Rattle.table.specs.Answers.{entering_of};
 ghost use Rattle.offices.specs.Offices.{office_call, tables_fit};
-ghost use Rattle.paths.specs.Path.{rows_in};
 ghost use Rattle.office.specs.Answers.{note_by, note_call, noted_of};
 
-use paths::Path;
+use refusals::{Refusal, check};
 use table::Entered;
 
-/// The answer of Office: whether the vector was entered, or met by a row, and how many rows of the half are filled now.
-#[derive(Clone, Copy)]
-pub enum OfficeAnswer {
-    Rows { entered: bool, count: usize },
-    Refused(u8),
+/// Whether the vector was entered, or met by a row, and how many rows of the half are filled now.
+#[derive(Clone, Copy, Debug, PartialEq, Eq)]
+pub struct Note {
+    pub entered: bool,
+    pub count: usize,
 }
 
 // Whether a table of so many places has exactly 2 × h rows; h may be any number.
@@ -26,7 +25,8 @@ fn has_rows(places: usize, width: usize, h: usize) -> bool
     places / both == h && places % both == 0
 }
 
-// Check 11.
+// Check 11. The tables and their counts come one by one, as C gives them.
+#[tactic(auto, unfolding(offices::specs::Offices::tables_fit))]
 fn fit(
     office: u32,
     h: usize,
@@ -40,69 +40,53 @@ fn fit(
     requires { (0 < k) × (k ≤ 31) × (0 < w) × (w ≤ 31) }
     ensures { result ≡ tables_fit k w office h (record { first = first; second = second }) (record { costs = costs.now; witnesses = witnesses.now }) }
 {
-    if office == 0 {
-        return false;
-    }
-    if 2 < office {
-        return false;
-    }
-    if h == 0 {
-        return false;
-    }
-    if !has_rows(costs.len(), k, h) {
-        return false;
-    }
-    if !has_rows(witnesses.len(), w, h) {
-        return false;
-    }
-    if h < first {
-        return false;
-    }
-    second <= h
+    matches!(office, 1 | 2)
+        && 0 < h
+        && has_rows(costs.len(), k, h)
+        && has_rows(witnesses.len(), w, h)
+        && first <= h
+        && second <= h
 }
 
 // What entering in a half comes to, of which so many rows were filled.
-fn noted(entered: Entered, count: usize) -> OfficeAnswer
+fn noted(entered: Entered, count: usize) -> Result<Note, Refusal>
     ensures { noted_of result ≡ note_by (entering_of entered) count }
 {
     match entered {
-        Entered::Unfit => OfficeAnswer::Refused(11),
-        Entered::Met => OfficeAnswer::Rows {
+        Entered::Unfit => Err(Refusal::ShortBuffer),
+        Entered::Met => Ok(Note {
             entered: false,
-            count: count,
-        },
-        Entered::Full => OfficeAnswer::Refused(24),
-        Entered::Rows(filled) => OfficeAnswer::Rows {
+            count,
+        }),
+        Entered::Full => Err(Refusal::FullHalf),
+        Entered::Rows(filled) => Ok(Note {
             entered: true,
             count: filled,
-        },
+        }),
     }
 }
 
-// Enters a vector with a path in the office's half of both tables.
-fn note(
+// Enters a vector with a tree's path in the office's half of both tables.
+fn enter(
     office: u32,
     costs: &mut [u32],
     witnesses: &mut [u16],
     first: usize,
     second: usize,
     vector: &[u32],
-    path: Path,
-) -> OfficeAnswer
+    path: &[u16],
+) -> Result<Note, Refusal>
     ensures { record { outcome = noted_of result; buffers = record { costs = costs.new; witnesses = witnesses.new } }
         ≡ note_call office (record { first = first; second = second })
-        (record { costs = costs.old; witnesses = witnesses.old }) (record { vector = vector.now; path = rows_in path }) }
+        (record { costs = costs.old; witnesses = witnesses.old }) (record { vector = vector.now; path = path.now }) }
 {
-    let rows = path.rows;
-    let w = path.length();
-    let tree = &rows[..w];
     let a = costs.len() / 2;
     let b = witnesses.len() / 2;
     if office == 1 {
-        let entered = table::enter(&mut costs[..a], &mut witnesses[..b], first, vector, tree);
+        let entered = table::enter(&mut costs[..a], &mut witnesses[..b], first, vector, path);
         return noted(entered, first);
     }
-    let entered = table::enter(&mut costs[a..], &mut witnesses[b..], second, vector, tree);
+    let entered = table::enter(&mut costs[a..], &mut witnesses[b..], second, vector, path);
     noted(entered, second)
 }
 
@@ -117,30 +101,24 @@ pub fn office(
     witnesses: &mut [u16],
     first: usize,
     second: usize,
-) -> OfficeAnswer
+) -> Result<Note, Refusal>
     ensures { record { outcome = noted_of result; buffers = record { costs = costs.new; witnesses = witnesses.new } }
         ≡ office_call file.now rows.now office h (record { first = first; second = second }) (record { costs = costs.old; witnesses = witnesses.old }) }
 {
-    let drawn = drawn::drawn(file, rows);
-    let number = drawn.number;
-    if number != 0 {
-        return OfficeAnswer::Refused(number);
-    }
+    let path = drawn::drawn(file, rows)?;
     let header = fields::header_of(file);
     let k = header.k as usize;
-    let w = rows.len();
-    let fits = fit(office, h, k, w, costs, witnesses, first, second);
-    if !fits {
-        return OfficeAnswer::Refused(11);
-    }
-    let vector = vector::vector(file, drawn.path);
-    note(
+    let fits = fit(office, h, k, rows.len(), costs, witnesses, first, second);
+    check(fits, Refusal::ShortBuffer)?;
+    let costs_of_path = vector::vector(file, path);
+    let vector = &costs_of_path[..k];
+    enter(
         office,
         costs,
         witnesses,
         first,
         second,
-        &vector[..k],
-        drawn.path,
+        vector,
+        steps::rows(&path),
     )
 }

@@ -1,8 +1,8 @@
--- What each case of the code's answer says in document 01's terms.
-use Rattle.checks.specs.Checks.{Outcome, answered, refused}
-use Rattle.order.specs.declared.Ordered.{Ordered}
-use Rattle.order.specs.declared.Ordered.TheVariants as ordered
+-- What the code's answer says in document 01's terms.
+use Rattle.std.specs.Prelude.{Result}
+use Rattle.checks.specs.Checks.{Outcome}
+use Rattle.refusals.specs.Refusals.{outcome_of}
+use Rattle.refusals.specs.declared.Refusal.{Refusal}
 
-abbrev pub ordered_of : Ordered → Outcome (Unit {0})
-ordered_of ordered.Path = answered tt
-ordered_of (ordered.Refused e) = refused e
+abbrev pub ordered_of : Result (Unit {0}) Refusal → Outcome (Unit {0})
+ordered_of = outcome_of (λ done. done)

@@ -1,5 +1,5 @@
 -- Page's checks, one after the other: what the call comes to where the first is not met (`page_open`, `page_none`, `page_short`, `page_start`), and
--- where all are met (`page_met`; on the chart of a file, by the page that is filled with its trees, `page_given`).
+-- where all are met (`page_met`; on the chart of a file, by the page that is filled with its trees, `page_given`); and a refusal of the code as such an end (`page_refused`).
 use mathlib.Core.Path.{◌∙◌, ◌≡◌, ap, sym}
 use mathlib.Core.Bool.{false, true}
 use mathlib.Core.Option.{none, some}
@@ -8,6 +8,7 @@ use Prim.Native.Nat.{◌<◌, ◌≤◌, ℕ}
 use lib.Dec.{leb}
 use lib.ListN.{length}
 use borrow.Author.Tests.{le-leb, lt-leb}
+use Rattle.std.specs.Prelude.{Err, IsErrAnd, Ok, Result}
 use Rattle.checks.proofs.Checks.{first_unmet_append, first_unmet_met, first_unmet_unmet}
 use Rattle.checks.proofs.Ended.{ended_met, ended_unmet, first_unmet_stops}
 use Rattle.checks.specs.Checks.{Check, Ended, first_unmet, refused}
@@ -16,9 +17,13 @@ use Rattle.graph.specs.Graph.{width}
 use Rattle.network_file.specs.File.{file_checks, network_of}
 use Rattle.operations.specs.Operations.{Paged, check, graph_in, layouts_in, page_call, page_checks, some_tree, start_checks}
 use Rattle.pages.specs.Pages.{rest_after}
+use Rattle.refusals.specs.Refusals.{number_of}
+use Rattle.refusals.specs.declared.Refusal.{Refusal}
 use Rattle.fill.specs.Walkable.{filled_by}
+use Rattle.fill.specs.declared.Filled.{Filled}
 use Rattle.start.specs.Start.{ChartOf}
 use Rattle.start.proofs.Given.{list_read, width_read}
+use Rattle.page.specs.Answers.{paged_of}
 
 module _ (f page start : List ℕ) where
   abbrev after12 : List Check
@@ -60,6 +65,12 @@ module _ (f page start : List ℕ) where
         pub page_met : first_unmet (start_checks (network_of f) start) ≡ none → filled_by (width (graph_in f)) page (rest_after (layouts_in f) start) ≡ page_call f page start
         unfolding page_call
         page_met h = sym (ended_met (page_checks f page start) _ page _ (room_met ∙ h))
+
+-- the code's refusal by e, as what a call comes to
+pub page_refused : {call : Ended Paged (List ℕ)} {page : List ℕ} {d e : Refusal} → record { outcome = refused (number_of e); buffers = page } ≡ call → d ≡ e
+    → (r : Result Filled Refusal) → IsErrAnd r (λ x. x ≡ d) → record { outcome = paged_of r; buffers = page } ≡ call
+page_refused {page = page} told same (Err x) h = ap (λ (e : Refusal). record { outcome = refused (number_of e); buffers = page }) (h ∙ same) ∙ told
+page_refused told same (Ok a) h = absurd h
 
 -- a page that is filled with the trees of a file's chart behind a start that meets its checks
 pub page_given : {f c : List ℕ} → ChartOf f c → (start : List ℕ) → first_unmet (start_checks (network_of f) start) ≡ none → (page : List ℕ) (a : Ended Paged (List ℕ))

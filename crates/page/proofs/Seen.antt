@@ -1,15 +1,17 @@
--- What shows that there is a tree: the first path of all (`first_tree`), or a start that is seen to be in the list by its path (`path_listed`).
+-- What shows whether there is a tree: the first path of all (`first_given`), or a start that is seen to be in the list by its path (`path_listed`).
 use mathlib.Core.Path.{◌∙◌, ◌≡◌, ap, refl, subst, sym}
-use mathlib.Core.Bool.{Bool, false, true}
-use mathlib.Core.Option.{none-ne-some, some-ne-none, none, some}
+use mathlib.Core.Bool.{false, true}
+use mathlib.Core.Option.{none-ne-some, some-ne-none}
 use mathlib.Core.List.{List, [], ◌++◌, ◌∷◌, append-nil}
 use Prim.Native.Nat.{◌+◌, ◌≤◌, ℕ}
 use native.Mathlib.Omega.{arith}
 use lib.ListN.{get_or, get_elem?, length}
 use lib.Seq.{append_snoc}
+use Rattle.std.specs.Prelude.{Err, IsErrAnd, None, Ok, Result, Some, is_some}
+use Rattle.std.specs.declared.option.Option as code
 use Rattle.lists.proofs.Members.{◌∈◌, has_all_out, length_snoc}
 use Rattle.lists.proofs.Tests.{T_true, pick_elim}
-use Rattle.lists.specs.Lists.{member, pick}
+use Rattle.lists.specs.Lists.{member}
 use Rattle.bounds.proofs.Prefix.{rows_of_append}
 use Rattle.chart.proofs.Charts.{Charts, small}
 use Rattle.chart.specs.Chart.{firsts_in, graph_in, list_in, musts_in, plant_in, seconds_in, width_in}
@@ -17,27 +19,41 @@ use Rattle.graph.proofs.Growth.{rows_of, rows_of_length}
 use Rattle.graph.specs.Paths.{Key}
 use Rattle.grow.proofs.Leads.{MustsLead, musts_met_lem}
 use Rattle.grow.specs.Musts.{musts_met}
-use Rattle.operations.specs.Operations.{some_tree}
-use Rattle.paths.specs.Path.{entered_by, keys_of}
+use Rattle.operations.specs.Operations.{layouts_in, some_tree}
+use Rattle.refusals.specs.declared.Refusal.{Refusal}
+use Rattle.refusals.specs.declared.Refusal.TheVariants.{NoTree}
+use Rattle.paths.specs.Path.{entered_by}
+use Rattle.paths.specs.declared.Path.{Path}
 use Rattle.states.proofs.With.{with_of}
 use Rattle.trace.proofs.Laws.{extended_room}
 use Rattle.trace.specs.Trace.{key_by, trace_from, traced_in}
 use Rattle.walk.proofs.Climbing.{climbs_full}
 use Rattle.walk.specs.Climbing.{climbs_in}
 use Rattle.walk.specs.Walk.{first_in, next_of}
-use Rattle.walk.specs.declared.Next.{Next}
 use Rattle.fill.specs.Walkable.{Comes}
 use Rattle.fill.proofs.Steps.{comes_first}
+use Rattle.start.specs.Start.{ChartOf}
+use Rattle.start.proofs.Given.{leads_given, list_read, right_given}
+use Rattle.page.specs.Beginning.{Beginning}
+use Rattle.page.specs.declared.Begun.{Begun}
 
 -- there is a first path exactly if there is a tree
-pub first_tree : {c : List ℕ} → Charts c → MustsLead c → (n : Next) → next_of n ≡ first_in c → some_tree (list_in c) ≡ n.some
-first_tree {c} right lead n answer = by (list_in c) n.some (rw answer (comes_first right lead))
+first_tree : {c : List ℕ} → Charts c → MustsLead c → (first : code.Option Path) → next_of first ≡ first_in c → some_tree (list_in c) ≡ is_some first
+first_tree {c} right lead first answer = by (list_in c) first (rw answer (comes_first right lead))
   where
-    by : (l : List (List ℕ)) (b : Bool) → Comes c (pick b (some (keys_of n.path)) none) (get_elem? l 0) → some_tree l ≡ b
-    by [] false h = refl
-    by [] true h = absurd (none-ne-some _ h.0)
-    by (p ∷ l) false h = absurd (some-ne-none _ h)
-    by (p ∷ l) true h = refl
+    by : (l : List (List ℕ)) (o : code.Option Path) → Comes c (next_of o) (get_elem? l 0) → some_tree l ≡ is_some o
+    by [] None h = refl
+    by [] (Some q) h = absurd (none-ne-some _ h.0)
+    by (p ∷ l) None h = absurd (some-ne-none _ h)
+    by (p ∷ l) (Some q) h = refl
+
+pub first_given : {f c : List ℕ} → ChartOf f c → (first : code.Option Path) → next_of first ≡ first_in c → some_tree (layouts_in f) ≡ is_some first
+first_given o first answer = ap some_tree (sym (list_read o)) ∙ first_tree (right_given o) (leads_given o) first answer
+
+-- where there is none, a call is refused by it
+pub refused_begin : (f c begin : List ℕ) → some_tree (layouts_in f) ≡ false → {e : Refusal} → e ≡ NoTree → (r : Result Begun Refusal) → IsErrAnd r (λ x. x ≡ e) → Beginning f c begin r
+refused_begin f c begin none_listed d (Ok b) h = absurd h
+refused_begin f c begin none_listed d (Err x) h = (none_listed, h ∙ d)
 
 -- the path of some rows has these rows, as long as there is room
 key_row : (firsts seconds entered : List ℕ) (r : ℕ) → (key_by firsts seconds entered r).row ≡ r

@@ -1,15 +1,11 @@
--- What each case of the code's answer says in document 01's terms.
-use Rattle.checks.specs.Checks.{Outcome, answered, refused}
-use Rattle.network_file.specs.File.{Sizes}
+-- What the answer of Page says in document 01's terms.
+use Rattle.std.specs.Prelude.{Result}
+use Rattle.checks.specs.Checks.{Outcome}
 use Rattle.operations.specs.Operations.{Paged}
-use Rattle.page.specs.declared.PageAnswer.{PageAnswer}
-use Rattle.page.specs.declared.PageAnswer.TheVariants as answer
+use Rattle.refusals.specs.Refusals.{outcome_of}
+use Rattle.refusals.specs.declared.Refusal.{Refusal}
+use Rattle.fill.specs.Walkable.{filled_of}
+use Rattle.fill.specs.declared.Filled.{Filled}
 
-abbrev pub paged_of : PageAnswer → Outcome Paged
-paged_of (answer.Trees count more) = answered (record { count = count; more = more })
-paged_of (answer.Refused e) = refused e
-
--- a refusal of Open as one of Page; an answer never is one
-abbrev pub refused_by : Outcome Sizes → Outcome Paged
-refused_by (refused e) = refused e
-refused_by (answered a) = refused 0
+abbrev pub paged_of : Result Filled Refusal → Outcome Paged
+paged_of = outcome_of filled_of

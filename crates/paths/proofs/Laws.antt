@@ -3,11 +3,16 @@ use mathlib.Core.Path.{◌∙◌, ◌≡◌, ap, refl, sym}
 use mathlib.Core.List.{List, [], ◌++◌, ◌∷◌, map}
 use Prim.Native.Nat.{◌+◌, ◌<◌, ◌≤◌, min, suc, zero, ℕ}
 use lib.ListN.{get_or-eq_default, get_or-map, drop, get_or, length, length-drop, length-map, length-take, set, take}
+use lib.Dec.{eqb}
 use lib.Seq.{get_or-drop, get_or-set_other, get_or-take, take_all, take-suc-set, take-take}
 use native.Mathlib.Nat.{add_comm}
 use native.Mathlib.Numerals.{add-one}
+use native.Mathlib.Decide.{dec_lt}
 use native.Mathlib.Omega.{arith}
 use borrow.Author.Tests.{le-ltb, lt-ltb}
+use Rattle.std.specs.Prelude.{Bool, ◌&&◌, nat_eq}
+use Rattle.std.specs.Cmp.Lexicographic.{pointwise}
+use Rattle.lists.specs.Lists.{same}
 use Rattle.graph.specs.Paths.{Key}
 use Rattle.paths.specs.Path.{entered_by, extended_by, keys_from, keys_of, length_of, no_key, nodes_of, plant_of, rows_in}
 use Rattle.paths.specs.declared.Path.{Path}
@@ -68,25 +73,27 @@ keys_next n is vs rs i v r a b c =
 -- A path
 
 module _ (p : Path) where
-  fewer : (n : ℕ) (l : List ℕ) → n < length_of p → take n (take (length_of p) l) ≡ take n l
-  fewer n l h = take-take n (length_of p) l (omega arith)
+  part_of : (n m : ℕ) (l : List ℕ) → m ≡ min (length_of p) n → take m l ≡ take n (take (length_of p) l)
+  part_of n m l e = elim (dec_lt n (length_of p)) [
+    | yes h ↦ ap (λ (i : ℕ). take i l) (e ∙ omega arith) ∙ sym (take-take n (length_of p) l (omega arith))
+    | no h ↦ ap (λ (i : ℕ). take i l) (e ∙ omega arith) ∙ sym (take_all n (take (length_of p) l) (simp length-take (omega arith)))
+  ]
 
-  pub shortened_is : (n : ℕ) → n < length_of p
-      → keys_of (record { rows = p.rows; nodes = p.nodes; pivots = p.pivots; len = n }) ≡ take n (keys_of p)
+  pub shortened_is : (n m : ℕ) → m ≡ min (length_of p) n
+      → keys_of (record { rows = p.rows; nodes = p.nodes; pivots = p.pivots; len = m }) ≡ take n (keys_of p)
   unfolding keys_of
-  shortened_is n h =
-      let short : min n 31 ≡ n = omega arith in
-      rw (short, keys_take, fewer n p.pivots h, fewer n (drop 1 p.nodes) h, fewer n p.rows h)
+  shortened_is n m e =
+      let short : min m 31 ≡ m = omega arith in
+      rw (short, keys_take, part_of n m p.pivots e, part_of n m (drop 1 p.nodes) e, part_of n m p.rows e)
 
-  all_of : (n : ℕ) (l : List ℕ) → length_of p ≤ n → take n (take (length_of p) l) ≡ take (length_of p) l
-  all_of n l h = take_all n (take (length_of p) l) (simp length-take (omega arith))
-
-  pub whole_is : (n : ℕ) → length_of p ≤ n → keys_of p ≡ take n (keys_of p)
+  whole_is : keys_of p ≡ take (length_of p) (keys_of p)
   unfolding keys_of
-  whole_is n h = rw (keys_take, all_of n p.pivots h, all_of n (drop 1 p.nodes) h, all_of n p.rows h)
+  whole_is =
+      let same : (l : List ℕ) → take (length_of p) l ≡ take (length_of p) (take (length_of p) l) = λ l. part_of (length_of p) (length_of p) l (omega arith) in
+      rw (keys_take, ← same p.pivots, ← same (drop 1 p.nodes), ← same p.rows)
 
   pub keys_most : length (keys_of p) ≤ length_of p
-  keys_most = omega (arith, ap length (whole_is (length_of p) (omega arith)), length-take (length_of p) (keys_of p))
+  keys_most = omega (arith, ap length whole_is, length-take (length_of p) (keys_of p))
 
   pub key_past : (i : ℕ) → length_of p ≤ i → get_or (keys_of p) i no_key ≡ no_key
   key_past i h = let past : length (keys_of p) ≤ i = omega (arith, keys_most) in get_or-eq_default (keys_of p) no_key past
@@ -159,3 +166,11 @@ path_rows p n e nodes rows pivots = rw e (sym (rows_are p nodes rows pivots))
 
 pub row_is : (p : Path) (i : ℕ) → (get_or (keys_of p) i no_key).row ≡ get_or (rows_in p) i 0
 row_is p i = sym (get_or-map (λ (k : Key). k.row) (keys_of p) i no_key)
+
+-- two lists are compared in the code as they are in `same`
+pub same_is : (xs ys : List ℕ) → pointwise nat_eq xs ys ≡ same xs ys
+unfolding same
+same_is [] [] = refl
+same_is [] (y ∷ ys) = refl
+same_is (x ∷ xs) [] = refl
+same_is (x ∷ xs) (y ∷ ys) = ap (λ (b : Bool). eqb x y && b) (same_is xs ys)

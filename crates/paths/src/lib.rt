@@ -6,8 +6,8 @@ ghost use Rattle.std.specs.Prelude.{◌≡◌, [], get_or, take};
 ghost use Rattle.lists.specs.Lists.{same};
 ghost use Rattle.paths.specs.Path.{entered_by, extended_by, keys_of, length_of, no_key, plant_of, rows_in};
 
-/// A path of at most 31 steps.
-#[derive(Clone, Copy)]
+/// A path of at most 31 steps; in arrays, of which the first `len` places count, since there is no heap.
+#[derive(Clone, Copy, Debug, PartialEq, Eq)]
 pub struct Path {
     pub rows: [u16; 31],
     pub nodes: [u8; 32],
@@ -32,8 +32,7 @@ impl Path {
     pub fn length(self) -> usize
         ensures { result ≡ length_of self }
     {
-        let n = self.len;
-        if n < 31 { n } else { 31 }
+        self.len.min(31)
     }
 
     /// The path with one step more, if there is room.
@@ -54,10 +53,7 @@ impl Path {
     pub fn shortened(mut self, steps: usize) -> Path
         ensures { (plant_of result ≡ plant_of self) × (keys_of result ≡ take steps (keys_of self)) }
     {
-        let n = self.length();
-        if steps < n {
-            self.len = steps;
-        }
+        self.len = self.length().min(steps);
         self
     }
 
@@ -65,48 +61,39 @@ impl Path {
     pub fn pivot_at(self, i: usize) -> u8
         ensures { result ≡ (get_or (keys_of self) i no_key).place }
     {
-        let n = self.length();
-        if i < n { self.pivots[i] } else { 0 }
+        if i < self.length() { self.pivots[i] } else { 0 }
     }
 
     /// The node of step i; 0 where the path has no such step.
     pub fn node_at(self, i: usize) -> u8
         ensures { result ≡ (get_or (keys_of self) i no_key).node }
     {
-        let n = self.length();
-        if i < n { self.nodes[i + 1] } else { 0 }
+        if i < self.length() {
+            self.nodes[i + 1]
+        } else {
+            0
+        }
     }
 
     /// The node entered at place i: the plant at place 0; 0 where none is.
     pub fn entered_at(self, i: usize) -> u8
         ensures { result ≡ get_or (entered_by (plant_of self) (keys_of self)) i 0 }
     {
-        let n = self.length();
-        if i <= n { self.nodes[i] } else { 0 }
+        if i <= self.length() { self.nodes[i] } else { 0 }
     }
 
     /// The row of step i; 0 where the path has no such step.
     pub fn row_at(self, i: usize) -> u16
         ensures { result ≡ (get_or (keys_of self) i no_key).row }
     {
-        let n = self.length();
-        if i < n { self.rows[i] } else { 0 }
+        if i < self.length() { self.rows[i] } else { 0 }
     }
 
     /// Whether these are its rows, in its order.
     pub fn is_written(self, rows: &[u16]) -> bool
         ensures { result ≡ same (rows_in self) rows.now }
     {
-        if self.length() != rows.len() {
-            return false;
-        }
-        let mut i: usize = 0;
-        while i < rows.len() {
-            if self.row_at(i) != rows[i] {
-                return false;
-            }
-            i += 1;
-        }
-        true
+        let n = self.length();
+        &self.rows[..n] == rows
     }
 }

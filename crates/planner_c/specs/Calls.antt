@@ -1,11 +1,13 @@
 -- What a call from Rust or C comes to: the number that it returns, and what each lent buffer holds afterwards.
 -- But for Pick the number is a code: 255 where the answer buffer is too short, before any check; else the number of the
 -- refusal, with every buffer as it was; else 0, with the answer's values in the first places.
-use Rattle.std.specs.Prelude.{Bool, false, true, List, [], ◌∷◌, min, ℕ, ltb, length, take}
+use Rattle.std.specs.Prelude.{Bool, false, true, List, [], ◌∷◌, Result, min, ℕ, ltb, length, take}
 use Rattle.lists.specs.Lists.{pick}
 use Rattle.checks.specs.Checks.{Ended, Outcome, answered, refused}
 use Rattle.network_file.specs.File.{Sizes, open_of}
 use Rattle.operations.specs.Operations.{FrontTables, Fronted, Paged, Reached, cost_call, front_call, order_call, over, page_call, pick_call, reach_call}
+use Rattle.refusals.specs.Refusals.{outcome_of}
+use Rattle.refusals.specs.declared.Refusal.{Refusal}
 use Rattle.charges.specs.Charges.{Charge, charge_call}
 use Rattle.counts.specs.Count.{count_call}
 use Rattle.indexes.specs.Index.{fetch_call, index_call}
@@ -29,6 +31,12 @@ code_of (answered a) = 0
 abbrev pub answer_after : {A : Type 0} → (A → List ℕ) → Outcome A → List ℕ → List ℕ
 answer_after values (refused number) answer = answer
 answer_after values (answered a) answer = over (values a) answer
+
+-- what a call comes to where the answer buffer has the places: its result's values are the numbers that stand in the first of them
+abbrev pub told : {A : Type 0} → (A → List ℕ) → Result A Refusal → List ℕ → Called (List ℕ)
+told values result answer =
+    let outcome = outcome_of values result in
+    record { code = code_of outcome; buffers = answer_after (λ numbers. numbers) outcome answer }
 
 -- a call that is lent nothing but its answer buffer
 unfoldable pub answering : {A : Type 0} → ℕ → (A → List ℕ) → Outcome A → List ℕ → Called (List ℕ)

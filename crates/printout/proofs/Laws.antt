@@ -1,5 +1,5 @@
 -- Bytes put into a buffer: what is put in two parts, one behind the other, is put at once (`behind`); what fits stands there whole (`put_whole`);
--- and where the loop ends that puts them (`all_put`).
+-- and where a part has been copied (`copied_put`).
 use mathlib.Core.Path.{◌∙◌, ◌≡◌, ap, refl, sym}
 use mathlib.Core.Bool.{Bool, false, true}
 use mathlib.Core.List.{List, [], ◌++◌, append_assoc}
@@ -9,8 +9,9 @@ use native.Mathlib.Omega.{arith}
 use borrow.Author.Tests.{leb-false, leb-true}
 use lib.Dec.{leb}
 use lib.ListN.{drop, length, length-append, length-drop, length-take, take}
-use lib.Seq.{drop-drop, drop-paste, length-paste, paste, paste-zero, take-append-add, take-append-le, take-length, take-paste}
-use Rattle.copies.proofs.Pasting.{Pasting, pasting_end}
+use borrow.Rule.Slice.PartMut.{put_mid}
+use Rattle.std.proofs.lemmas.Slice.{put_mid-paste}
+use lib.Seq.{drop-drop, drop-paste, length-paste, paste, paste-zero, take-append-add, take-append-le, take_all, take-length, take-paste}
 use Rattle.printout.specs.Text.{Filled, filled, fitting, put}
 
 -- where nothing fits, the buffer stays as it is
@@ -71,8 +72,17 @@ put_whole out bytes fits =
     let whole : fitting out 0 bytes ≡ length bytes = omega arith in
     rw (whole, zero-add (length bytes), take-length bytes)
 
-pub all_put : {out : List ℕ} {at : ℕ} {bytes new : List ℕ} {i : ℕ} → Pasting out at bytes (fitting out at bytes) new i → fitting out at bytes ≤ i → filled new (at + i) ≡ put out at bytes
+-- the bytes that fit stand in the part that they were copied to
+pub copied_put : (out : List ℕ) (at : ℕ) (bytes : List ℕ) {n k : ℕ} {part new : List ℕ} → n ≡ fitting out at bytes → k ≡ n → part ≡ take n bytes → new ≡ put_mid at k out part
+    → filled new (at + n) ≡ put out at bytes
 unfolding put
-all_put {out} {at} {bytes} {new} {i} p all =
-    let end : i ≡ fitting out at bytes = omega (arith, p.few) in
-    ap (λ (l : List ℕ). filled l (at + i)) (pasting_end p all) ∙ ap (λ (k : ℕ). filled (paste out at bytes (fitting out at bytes)) (at + k)) end
+copied_put out at bytes {n} {k} {part} {new} fit long copied is =
+    let same : take n (take n bytes) ≡ take n bytes = take_all n (take n bytes) (simp length-take (omega arith)) in
+    let pasted : new ≡ paste out at bytes n = is ∙ put_mid-paste at k out part (take n bytes) n copied (sym long) (simp length-take (omega arith)) ∙ rw same in
+    rw (pasted, fit)
+
+-- and where nothing fits nothing is copied
+pub none_put : (out : List ℕ) (at : ℕ) (bytes : List ℕ) {n : ℕ} {new : List ℕ} → n ≡ fitting out at bytes → n ≤ 0 → new ≡ out → filled new (at + n) ≡ put out at bytes
+none_put out at bytes {n} {new} fit none is =
+    let place : at + n ≡ at = omega arith in
+    rw (is, place) (put_still out at bytes (omega arith))

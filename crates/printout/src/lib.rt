@@ -2,19 +2,46 @@
 //! The longest line of the printout has under 250 bytes: a tree of 31 rows with four costs.
 #![tactic(auto)]
 
-ghost use Rattle.std.specs.Prelude.{◌≡◌, ◌∷◌, [], take};
+ghost use Rattle.std.specs.Prelude.{◌≡◌, ◌∷◌, [], ℕ, map, take};
 ghost use Rattle.printout.specs.Text.{decimal_of, filled, numbers_of, put};
+
+// The buffer and the place are two arguments, and no struct that holds both. Tried: the proof of a caller doesn't close, since a method that is lent the struct
+// may put another buffer into it, and a contract can't tell that what was lent to its maker is what it holds.
+
+/// What is put as a number.
+pub trait AsNumber: Copy {
+    ghost value: { Self → ℕ };
+
+    /// The number.
+    fn as_number(self) -> u64
+        ensures { result ≡ value self };
+}
+
+impl AsNumber for u16 {
+    ghost value = { λ n. n };
+
+    fn as_number(self) -> u64 {
+        u64::from(self)
+    }
+}
+
+impl AsNumber for u32 {
+    ghost value = { λ n. n };
+
+    fn as_number(self) -> u64 {
+        u64::from(self)
+    }
+}
 
 /// Puts these bytes into the buffer, as far as they fit; answers the place behind.
 pub fn text(out: &mut [u8], at: usize, bytes: &[u8]) -> usize
     ensures { filled out.new result ≡ put out.old at bytes.now }
 {
-    let mut i: usize = 0;
-    while i < bytes.len() && at + i < out.len() {
-        out[at + i] = bytes[i];
-        i += 1;
+    let n = bytes.len().min(out.len().saturating_sub(at));
+    if n > 0 {
+        out[at..at + n].copy_from_slice(&bytes[..n]);
     }
-    at + i
+    at + n
 }
 
 /// A line feed.
@@ -34,28 +61,13 @@ pub fn number(out: &mut [u8], at: usize, n: u64) -> usize
     text(out, spaced, &digits[..k])
 }
 
-/// The numbers of these rows.
-pub fn rows(out: &mut [u8], at: usize, rows: &[u16]) -> usize
-    ensures { filled out.new result ≡ put out.old at (numbers_of rows.now) }
+/// These numbers, as the rows of a tree or the costs of a vector.
+pub fn numbers<N: AsNumber>(out: &mut [u8], at: usize, numbers: &[N]) -> usize
+    ensures { filled out.new result ≡ put out.old at (numbers_of (map N.value numbers.now)) }
 {
     let mut place = at;
-    let mut i: usize = 0;
-    while i < rows.len() {
-        place = number(out, place, rows[i] as u64);
-        i += 1;
-    }
-    place
-}
-
-/// These costs.
-pub fn costs(out: &mut [u8], at: usize, costs: &[u32]) -> usize
-    ensures { filled out.new result ≡ put out.old at (numbers_of costs.now) }
-{
-    let mut place = at;
-    let mut i: usize = 0;
-    while i < costs.len() {
-        place = number(out, place, costs[i] as u64);
-        i += 1;
+    for n in numbers {
+        place = number(out, place, n.as_number());
     }
     place
 }
@@ -64,18 +76,12 @@ pub fn costs(out: &mut [u8], at: usize, costs: &[u32]) -> usize
 pub fn vector(out: &mut [u8], at: usize, vector: [u32; 4], k: usize) -> usize
     ensures { filled out.new result ≡ put out.old at (numbers_of (take k vector)) }
 {
-    if k < 4 {
-        return costs(out, at, &vector[..k]);
-    }
-    costs(out, at, &vector)
+    numbers(out, at, &vector[..k.min(4)])
 }
 
 /// What stands in the buffer before a place.
 pub fn shown(out: &[u8], at: usize) -> &[u8]
     ensures { result.now ≡ take at out.now }
 {
-    if at < out.len() {
-        return &out[..at];
-    }
-    out
+    &out[..at.min(out.len())]
 }

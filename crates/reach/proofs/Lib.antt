@@ -1,2 +1,2 @@
 pub mod Opened
-pub mod Reached
+pub mod Word

@@ -14,19 +14,19 @@ use Rattle.chart.specs.Chart.{Blank, file_chart_on}
 use Rattle.chart.proofs.Files.{file_charts, file_graph}
 use Rattle.operations.specs.Operations.{reach_call, reached_nodes, word_of}
 use Rattle.reach.specs.Reached.{reached_word}
-use Rattle.reach.proofs.Reached.{reached_size, reached_word_lem}
+use Rattle.reach.proofs.Word.{reached_size, reached_word_lem}
 
 module _ (f : List ℕ) where
-  pub reach_refused : (e : ℕ) → open_of f ≡ refused e → refused e ≡ reach_call f
+  pub reach_refused : (e : ℕ) → refused e ≡ open_of f → refused e ≡ reach_call f
   unfolding reach_call
-  reach_refused e h = sym (checked_unmet (file_checks f) _ e (open_refused f e h))
+  reach_refused e told = sym (checked_unmet (file_checks f) _ e (open_refused f e (sym told)))
 
   -- the chart c that was made of an empty one, and the word of its reached nodes
-  pub reach_answered : (s : Sizes) (c₀ c : List ℕ) (reached : ℕ) → open_of f ≡ answered s → Blank c₀ → c ≡ file_chart_on f c₀ → reached ≡ reached_word c
+  pub reach_answered : (s : Sizes) (c₀ c : List ℕ) (reached : ℕ) → answered s ≡ open_of f → Blank c₀ → c ≡ file_chart_on f c₀ → reached ≡ reached_word c
       → answered (record { word = reached / 2 % 4294967296; size = ones (reached / 2 % 4294967296) }) ≡ reach_call f
   unfolding reach_call
   reach_answered s c₀ c reached opened empty made e =
-      let met = (open_answered f s opened).0 in
+      let met = (open_answered f s (sym opened)).0 in
       let a = accepted f met in
       let right = file_charts f a c₀ empty in
       let graph = file_graph f a c₀ empty in

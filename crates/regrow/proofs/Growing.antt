@@ -3,7 +3,8 @@
 use mathlib.Core.Path.{◌∙◌, ◌≡◌, ap, refl, sym}
 use mathlib.Core.Option.{Option, none, some}
 use mathlib.Core.List.{List, [], ◌++◌, ◌∷◌, map, map-append}
-use Prim.Native.Nat.{◌%◌, ◌+◌, ◌-◌, ◌<◌, ◌≤◌, suc, zero, ℕ}
+use Prim.Native.Nat.{◌%◌, ◌+◌, ◌-◌, ◌<◌, ◌≤◌, min, suc, zero, ℕ}
+use native.Mathlib.Decide.{dec_lt}
 use native.Mathlib.Nat.{mod-eq_of_lt}
 use native.Mathlib.Numerals.{add-one}
 use native.Mathlib.Omega.{arith}
@@ -184,15 +185,22 @@ module _ {c : List ℕ} {plant : ℕ} {whole : List Key} {width : ℕ} {entered 
   left_room h = omega (arith, l.holds.nodes_long)
 
   -- no step is left: the growth is the path
-  pub left_over : width ≤ s → Holds entered pivots sets plant whole × (rows ≡ rows_of whole)
+  left_over : width ≤ s → Holds entered pivots sets plant whole × (rows ≡ rows_of whole)
   left_over h =
       let same : whole ≡ l.keys = l.goes_on ∙ grow_with_over _ _ _ _ _ _ _ (omega arith) in
       (rw same l.holds, rw same (sym (take_all s rows (omega (arith, l.width_is))) ∙ l.rows_are))
 
   -- no path has more than 31 steps
-  pub left_full : 31 ≤ s → s < width → ¬ (length whole ≡ width)
+  left_full : 31 ≤ s → s < width → ¬ (length whole ≡ width)
   left_full h less full =
       omega (arith, ap length l.goes_on, grow_most c plant (width - s) (fresh_after (nodes_in c) (entered_by plant l.keys)) l.keys i j l.holds.few)
+
+  -- the rows are full, or the path is
+  pub left_end : min width 31 ≤ s → length whole ≡ width → Holds entered pivots sets plant whole × (rows ≡ rows_of whole)
+  left_end h full = elim (dec_lt s width) [
+    | yes less ↦ absurd (left_full (omega arith) less full)
+    | no over ↦ left_over (omega arith)
+  ]
 
   -- the accepted step is that of the growth
   module _ {nodes word : ℕ} (all : nodes ≡ nodes_in c) (one : word ≡ get_or sets s 0) (less : s < width) {o : Option Key}

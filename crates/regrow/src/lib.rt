@@ -8,7 +8,7 @@ ghost use Rattle.graph.proofs.Growth.{rows_of};
 ghost use Rattle.graph.specs.Paths.{Key};
 ghost use Rattle.trail.specs.Trail.{Holds, Names, grown_on, sets_by, turned_by};
 
-use search::Found;
+use chart::Chart;
 use trail::Turn;
 
 /// For each place the set of the nodes entered up to it, of at most 32 nodes.
@@ -17,63 +17,59 @@ pub fn gather(entered: &[u8], sets: &mut [u64; 32])
         length nodes ≤ 32 → length sets.old ≡ 32 → (take (length nodes) sets.new ≡ sets_by nodes) × (length sets.new ≡ 32) }
 {
     let mut set: u64 = 0;
-    let mut i: usize = 0;
-    while i < entered.len() && i < 32 {
-        set = set | words::bit(entered[i]);
+    for i in 0..entered.len().min(32) {
+        set |= words::bit(entered[i]);
         sets[i] = set;
-        i += 1;
     }
 }
 
 // Accepted steps from a turn's step and bound on, until the rows are full.
 fn regrow(
-    chart: &[u64; chart::LENGTH],
+    chart: &Chart,
     entered: &mut [u8],
     pivots: &mut [u8; 31],
     sets: &mut [u64; 32],
     rows: &mut [u16],
     turn: Turn,
 )
-    ensures { (keys : List Key) → let c = chart.now in let rows₀ = rows.old in
+    ensures { (keys : List Key) → let c = chart.now.words in let rows₀ = rows.old in
         let whole = grown_on c (plant_in c) (length rows₀ - turn.at) keys turn.place turn.node in
         Holds entered.old pivots.old sets.old (plant_in c) keys
         → length keys ≡ turn.at → take turn.at rows₀ ≡ rows_of keys → length whole ≡ length rows₀
         → Holds entered.new pivots.new sets.new (plant_in c) whole × (rows.new ≡ rows_of whole) }
 {
-    let nodes = chart::nodes(chart);
-    let mut s = turn.at;
-    let mut i = turn.place as usize;
-    let mut j = turn.node;
-    while s < rows.len() && s < 31 {
-        let set = sets[s];
+    let nodes = chart.nodes();
+    let mut place = turn.place as usize;
+    let mut node = turn.node;
+    for s in turn.at..rows.len().min(31) {
         let n = s + 1;
         if entered.len() <= n {
             return;
         }
-        let found = grow::accepted(chart, words::minus(nodes, set), &entered[..n], i, j);
-        let Found::At(step) = found else {
+        let set = sets[s];
+        let fresh = words::minus(nodes, set);
+        let Some(step) = grow::accepted(chart, fresh, &entered[..n], place, node) else {
             return;
         };
-        i = step.place;
-        j = step.node;
+        place = step.place;
+        node = step.node;
         rows[s] = (step.row % 65536) as u16;
-        pivots[s] = (i % 256) as u8;
-        entered[n] = j;
-        sets[n] = set | words::bit(j);
-        s = n;
+        pivots[s] = (place % 256) as u8;
+        entered[n] = node;
+        sets[n] = set | words::bit(node);
     }
 }
 
 /// Makes a turn: the first rows are those of the path before, the others are written, and so is the path in the arrays.
 pub fn take_turn(
-    chart: &[u64; chart::LENGTH],
+    chart: &Chart,
     entered: &mut [u8],
     pivots: &mut [u8; 31],
     sets: &mut [u64; 32],
     rows: &mut [u16],
     turn: Turn,
 )
-    ensures { (keys : List Key) → let c = chart.now in let rows₀ = rows.old in
+    ensures { (keys : List Key) → let c = chart.now.words in let rows₀ = rows.old in
         let whole = turned_by c (plant_in c) keys turn.at turn.row in
         Holds entered.old pivots.old sets.old (plant_in c) keys → Names keys turn
         → take turn.at rows₀ ≡ take turn.at (rows_of keys) → length rows₀ ≡ width_in c → length whole ≡ width_in c
@@ -90,11 +86,9 @@ pub fn take_turn(
     // a parallel row: the same node from the same pivot
     rows[at] = turn.row;
     let next = Turn {
-        some: true,
         at: at + 1,
-        place: turn.place,
-        node: turn.node,
         row: 0,
+        ..turn
     };
     regrow(chart, entered, pivots, sets, rows, next);
 }

@@ -4,12 +4,11 @@ use mathlib.Core.Bool.{false, true}
 use mathlib.Core.Option.{Option, none, some}
 use mathlib.Core.List.{List}
 use Prim.Native.Nat.{◌+◌, ◌-◌, ◌<◌, ◌≤◌, suc, zero, ℕ}
-use native.Mathlib.Decide.{dec_lt, ℕ_discrete}
+use native.Mathlib.Decide.{dec_lt}
 use native.Mathlib.Nat.{add-zero}
 use native.Mathlib.Numerals.{add-one}
 use native.Mathlib.Omega.{arith}
-use borrow.Author.Tests.{eq-eqb, le-ltb, lt-ltb, ne_eqb}
-use lib.Dec.{eqb}
+use borrow.Author.Tests.{le-ltb, lt-ltb}
 use lib.ListN.{get_or, length}
 use Rattle.graph.specs.Paths.{Key}
 use Rattle.words.specs.Words.{above, has, lowest}
@@ -123,24 +122,3 @@ module _ (nb : List ℕ) (heads : ℕ → ℕ → ℕ) (firsts seconds : List �
 pub next_open : (nb : List ℕ) (fresh p o a j v : ℕ) → j < 64 → o ≡ open_at nb fresh p → a ≡ above o j → v ≡ lowest a → NextMember (open_at nb fresh p) j v
 next_open nb fresh p o a j v h e d f =
     subst (NextMember (open_at nb fresh p) j) (sym (f ∙ ap lowest (d ∙ ap (λ (x : ℕ). above x j) e))) (next_member (open_at nb fresh p) j h)
-
--- Whether a row with the ends a and b joins u and v, by its first end
-
-module _ (firsts seconds : List ℕ) (r u v : ℕ) {a : ℕ} (first : a ≡ get_or firsts r 0) where
-  pub joins_first : {b : ℕ} → b ≡ get_or seconds r 0 → a ≡ u → eqb b v ≡ joins_at firsts seconds r u v
-  unfolding joins_at
-  joins_first {b} second e = rw (← first, ← second, eq-eqb a u e) (elim (ℕ_discrete b v) [
-    | yes d ↦ rw (eq-eqb b v d)
-    | no n ↦ rw (ne_eqb b v n) (elim (ℕ_discrete a v) [
-      | yes d ↦ rw (eq-eqb a v d, ne_eqb b u (λ f. n (f ∙ sym e ∙ d)))
-      | no m ↦ rw (ne_eqb a v m)
-    ])
-  ])
-
-  pub joins_second : {b : ℕ} → b ≡ get_or seconds r 0 → ¬ (a ≡ u) → a ≡ v → eqb b u ≡ joins_at firsts seconds r u v
-  unfolding joins_at
-  joins_second {b} second n e = rw (← first, ← second, ne_eqb a u n, eq-eqb a v e)
-
-  pub joins_none : ¬ (a ≡ u) → ¬ (a ≡ v) → false ≡ joins_at firsts seconds r u v
-  unfolding joins_at
-  joins_none n m = rw (← first, ne_eqb a u n, ne_eqb a v m)

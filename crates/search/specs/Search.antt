@@ -1,24 +1,23 @@
 -- The nested search for the first legal step of a growing path, over places, nodes and rows, resumed at a bound.
 -- `nb` are the neighbours of each node and `fresh` the nodes not yet entered, as words, `heads` says from which row on the rows of two nodes are tried, and `firsts` and
 -- `seconds` are the ends of the rows. `step_in` is the search over a chart.
-use Rattle.std.specs.Prelude.{Bool, ◌&&◌, ◌||◌, List, ◌-◌, suc, zero, ℕ, eqb, ltb, get_or, length}
+use Rattle.std.specs.Prelude.{None, Some, Bool, ◌&&◌, ◌||◌, List, ◌-◌, suc, zero, ℕ, eqb, ltb, get_or, length}
+use Rattle.std.specs.declared.option.Option as code
 use Rattle.std.proofs.Math.Option.{Option, none, some}
 use Rattle.lists.specs.Lists.{pick}
 use Rattle.graph.specs.Paths.{Key}
 use Rattle.words.specs.Words.{has}
 use Rattle.chart.specs.Chart.{firsts_in, head_in, limit_in, near_in, seconds_in}
 use Rattle.spread.specs.Spread.{open_at}
-use Rattle.search.specs.declared.Found.{Found}
-use Rattle.search.specs.declared.Found.TheVariants.{At, Nothing}
 use Rattle.search.specs.declared.Step.{Step}
 
 -- the key of a step in the code, and what it found
 abbrev pub key_of : Step → Key
 key_of s = record { place = s.place; node = s.node; row = s.row }
 
-abbrev pub found_of : Found → Option Key
-found_of (At s) = some (key_of s)
-found_of Nothing = none
+abbrev pub found_of : code.Option Step → Option Key
+found_of (Some s) = some (key_of s)
+found_of None = none
 
 abbrev pub or_else : {A : Type 0} → Option A → Option A → Option A
 or_else none b = b

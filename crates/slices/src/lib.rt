@@ -1,18 +1,11 @@
-//! Reading a slice at any place: past its end there is 0.
+//! Reading a slice at any place: past its end there is what the caller names.
 #![tactic(auto)]
 
 ghost use Rattle.std.specs.Prelude.{◌≡◌, get_or};
 
-/// The byte at a place; 0 past the end.
-pub fn byte_at(s: &[u8], at: usize) -> u8
-    ensures { result ≡ get_or s.now at 0 }
+/// What stands at a place of a slice; `past` past its end.
+pub fn at<T: Copy>(s: &[T], i: usize, past: T) -> T
+    ensures { result ≡ get_or s.now i past }
 {
-    if at < s.len() { s[at] } else { 0 }
-}
-
-/// The word at a place; 0 past the end.
-pub fn word_at(s: &[u64], at: usize) -> u64
-    ensures { result ≡ get_or s.now at 0 }
-{
-    if at < s.len() { s[at] } else { 0 }
+    s.get(i).copied().unwrap_or(past)
 }

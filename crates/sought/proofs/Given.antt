@@ -27,16 +27,21 @@ use Rattle.chart.proofs.Charts.{few}
 use Rattle.chart.proofs.Laws.{firsts_length}
 use Rattle.forests.proofs.Forest.{Forest}
 use Rattle.chosen.specs.Chosen.{rows_on}
+use Rattle.tally.specs.Kinds.{numbers_of}
 use Rattle.tally.specs.Tally.{table_of}
 use Rattle.tally.proofs.Same.{same_cost}
 use Rattle.find.specs.Find.{Tables}
 use Rattle.find.specs.Find as find
-use Rattle.costing.specs.Costing.{costs_in, kinds_in, leads_in, tops}
+use Rattle.costing.specs.Costing.{costs_in, kind_by, kinds_in, leads_in, tops}
 use Rattle.costing.proofs.Laws.{free_all, free_lie, musts_forest, musts_on, same_graph, tabled, tables_in, under_top}
 use Rattle.completions.specs.Boxes.{inside}
 use Rattle.fronted.specs.Filled.{Filled, FilledBy}
 use Rattle.sought.specs.Sought.{Copied, Laid, Searched, sought_front, sought_witnesses}
 use Rattle.sought.proofs.Padded.{padded_part, seconds_length}
+
+-- the kinds of a file's criteria, as numbers
+abbrev pub kinds_for : List ℕ → List ℕ
+kinds_for f = numbers_of (map kind_by (kinds_in f))
 
 -- networks that cost the same have the same front of trees, with the same witnesses
 module _ (a b : Network) where
@@ -67,7 +72,7 @@ module _ {f c : List ℕ} {k : ℕ} (l : Laid f c k) where
   table = find.graph_in firsts seconds (limit_in c)
 
   abbrev w : Network
-  w = table_of (kinds_in f) k (costs_in f) (leads_in f)
+  w = table_of (kinds_for f) k (costs_in f) (leads_in f)
 
   accepted : Accepted f
   accepted = l.listing.lists.file
@@ -102,13 +107,13 @@ module _ {f c : List ℕ} {k : ℕ} (l : Laid f c k) where
     is_tree_lem = let wf = l.listing.right.charted.formed in minimal_tree (graph_in c) wf p ((with_mem (graph_in c) wf (musts_in c) p).0 m).0
 
     same : cost_of w p ≡ cost_of (network_of f) p
-    same = same_cost (network_of f) (kinds_in f) k (costs_in f) (leads_in f) (rw criteria (tabled f accepted)) p (tree_out (graph_in c) p is_tree_lem).once
+    same = same_cost (network_of f) (kinds_for f) k (costs_in f) (leads_in f) (rw criteria (tabled f accepted)) p (tree_out (graph_in c) p is_tree_lem).once
         (λ r i. omega (arith, (tree_out (graph_in c) p is_tree_lem).rows r i, few c))
 
     under : T (inside (take k tops) (cost_of w p))
     under = rw (same, criteria) (under_top f accepted p (subst (λ (x : Graph). T (is_tree x p)) l.listing.graph is_tree_lem))
 
-  given : Searched c (firsts_in false c) (seconds_in false c) (firsts_in true c) (kinds_in f) k (costs_in f) (leads_in f)
+  given : Searched c (firsts_in false c) (seconds_in false c) (firsts_in true c) (kinds_for f) k (costs_in f) (leads_in f)
   given = record {
     ready = record { right = l.listing.right; tables = tables; graph_is = graph_is; musts_are = musts_are };
     all_musts = ap (take 31) musts_are ∙ take_all 31 (musts_in c) forest.1;
@@ -123,7 +128,7 @@ module _ {f c : List ℕ} {k : ℕ} (l : Laid f c k) where
 
   -- the rows' ends are the first places of the arrays
   pub searched : {m : ℕ} {firsts seconds heads : List ℕ} → m ≡ count_in c → Copied c firsts seconds heads
-      → Searched c (take m firsts) (take m seconds) (take m heads) (kinds_in f) k (costs_in f) (leads_in f)
+      → Searched c (take m firsts) (take m seconds) (take m heads) (kinds_for f) k (costs_in f) (leads_in f)
   searched {m} count copied =
       let low : m ≤ 256 = omega arith in
       let firsts = padded_part (firsts_in false c) m (firsts_length false c ∙ sym count) low in
@@ -133,7 +138,7 @@ module _ {f c : List ℕ} {k : ℕ} (l : Laid f c k) where
 
   -- the front that is sought is the file's
   pub filled_for : {capacity : ℕ} {costs witnesses costs' witnesses' : List ℕ} {r : Outcome Fronted}
-      → FilledBy (sought_front c (kinds_in f) k (costs_in f) (leads_in f)) (sought_witnesses c (kinds_in f) k (costs_in f) (leads_in f)) capacity costs witnesses r costs' witnesses'
+      → FilledBy (sought_front c (kinds_for f) k (costs_in f) (leads_in f)) (sought_witnesses c (kinds_for f) k (costs_in f) (leads_in f)) capacity costs witnesses r costs' witnesses'
       → Filled f capacity costs witnesses r costs' witnesses'
   filled_for h =
       let vectors : front_vectors w (list_in c) ≡ front (network_of f) = vectors_same w (network_of f) (list_in c) same ∙ ap (front_vectors (network_of f)) l.listing.list in

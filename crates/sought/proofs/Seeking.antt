@@ -1,15 +1,16 @@
 -- The search for a witness (`Seeking`): it begins at the first path of the list (`seek_start`), goes on by a step where a wanted path begins so (`seek_deeper`), else to the path
 -- behind all that begin so (`seek_after`), and ends at the first wanted path (`seek_end`).
-use mathlib.Core.Path.{◌∙◌, ◌≡◌, ap, refl, subst, sym}
+use mathlib.Core.Path.{◌∙◌, ◌≡◌, ap, subst, sym}
 use mathlib.Core.Bool.{Bool, false, true}
-use mathlib.Core.Option.{Option, none, some}
+use mathlib.Core.Option.{some}
+use Rattle.std.specs.Option.{IfSome, unwrap_or}
+use Rattle.std.specs.Prelude.{None, Option as Maybe, Some}
 use mathlib.Core.List.{List}
 use Prim.Native.Nat.{◌+◌, ◌<◌, ◌≤◌, suc, ℕ}
 use native.Mathlib.Numerals.{add-one}
 use native.Mathlib.Omega.{arith}
 use lib.ListN.{get_or, length, take}
 use Rattle.graph.specs.Graph.{Graph, row_numbers}
-use Rattle.graph.specs.Paths.{Key}
 use Rattle.graph.proofs.Growth.{rows_of, rows_of_length, start}
 use Rattle.graph.proofs.Minimal.{sound_start}
 use Rattle.graph.proofs.Parts.{FirstIn}
@@ -30,7 +31,7 @@ use Rattle.branch.specs.Branch.{Asked, Tells}
 use Rattle.paths.specs.Path.{keys_of, plant_of, rows_in}
 use Rattle.paths.specs.declared.Path.{Path}
 use Rattle.grow.specs.Musts.{first_of}
-use Rattle.walk.specs.Walk.{after_of, path_or}
+use Rattle.walk.specs.Walk.{after_of, next_of}
 use Rattle.walk.proofs.Behind.{after_beyond, after_path, after_in, first_path_lem, last_after}
 use Rattle.sought.specs.Sought.{First, Ready, Wanted}
 
@@ -109,38 +110,31 @@ module _ {c firsts seconds heads : List ℕ} {k : ℕ} (ready : Ready c firsts s
         short = omega arith;
       }
 
-      module _ (e : b ≡ false) (next : Path) (same_plant : plant_of next ≡ plant_of path)
-          (keys : keys_of next ≡ path_or (keys_of path) (after_of c (plant_of path) (keys_of path) (len + 1))) where
+      module _ (e : b ≡ false) where
         shut : Shuts g w musts lim (take (suc len) (rows_in path))
         shut = rw add-one at (told.1 e)
 
-        is_after : keys_of next ≡ path_or (keys_of path) (after_in ready.right (keys_of path) (suc len))
-        is_after = keys ∙ (rw (s.planted ∙ sym planted, add-one))
+        -- behind the branch there is a path
+        pub found : (o : Maybe Path) → IfSome o (λ next. plant_of next ≡ plant_of path) → next_of o ≡ after_of c (plant_of path) (keys_of path) (len + 1)
+            → (plant_of (unwrap_or o path) ≡ plant_of path) × (after_in ready.right (keys_of path) (suc len) ≡ some (keys_of (unwrap_or o path)))
+        found (Some next) same keys = (same, sym (keys ∙ (rw (s.planted ∙ sym planted, add-one))))
+        found None same keys = absurd (sought_none g w musts lim (rows_in path) len s.at shut
+            (rw same_rows_lem at (last_after ready.right (keys_of path) s.whole (suc len) (sym (keys ∙ (rw (s.planted ∙ sym planted, add-one)))))))
 
-        -- behind the branch
-        found : (o : Option (List Key)) → after_in ready.right (keys_of path) (suc len) ≡ o → (ls : List Key) × (o ≡ some ls)
-        found none e = absurd (sought_none g w musts lim (rows_in path) len s.at shut
-            (rw same_rows_lem at (last_after ready.right (keys_of path) s.whole (suc len) e)))
-        found (some ls) e = (ls, refl)
+        module _ (next : Path) (goes : (plant_of next ≡ plant_of path) × (after_in ready.right (keys_of path) (suc len) ≡ some (keys_of next))) where
+          after : AfterIn g entries (take (suc len) (rows_in path)) (rows_in path) (rows_in next)
+          after = rw (same_rows_lem path, same_rows_lem next) at (after_path ready.right (keys_of path) s.whole (suc len) (keys_of next) goes.1)
 
-        behind : after_in ready.right (keys_of path) (suc len) ≡ some (keys_of next)
-        behind =
-            let (ls, d) = found (after_in ready.right (keys_of path) (suc len)) refl in
-            d ∙ ap some (sym (is_after ∙ ap (path_or (keys_of path)) d))
+          pub seek_after : Seeking next len
+          seek_after = record {
+            whole = (after_beyond ready.right (keys_of path) s.whole (suc len) (keys_of next) goes.1).full;
+            planted = goes.0 ∙ s.planted;
+            at = sought_after g w musts lim (rows_in path) len s.at shut (omega (arith, size)) (rows_in next) after;
+            short = s.short;
+          }
 
-        after : AfterIn g entries (take (suc len) (rows_in path)) (rows_in path) (rows_in next)
-        after = rw (same_rows_lem path, same_rows_lem next) at (after_path ready.right (keys_of path) s.whole (suc len) (keys_of next) behind)
-
-        pub seek_after : Seeking next len
-        seek_after = record {
-          whole = (after_beyond ready.right (keys_of path) s.whole (suc len) (keys_of next) behind).full;
-          planted = same_plant ∙ s.planted;
-          at = sought_after g w musts lim (rows_in path) len s.at shut (omega (arith, size)) (rows_in next) after;
-          short = s.short;
-        }
-
-        pub seek_less : left g entries (rows_in next) < left g entries (rows_in path)
-        seek_less = after_left (with_part_lem g musts) (take (suc len) (rows_in path)) (rows_in path) (rows_in next) after
+          pub seek_less : left g entries (rows_in next) < left g entries (rows_in path)
+          seek_less = after_left (with_part_lem g musts) (take (suc len) (rows_in path)) (rows_in path) (rows_in next) after
 
     pub seek_end : width_in c ≤ len → First c kinds k prices leads limits path
     seek_end over =

@@ -1,6 +1,6 @@
 -- What the search for the front works on: a chart and the tables of its graph (`Ready`), and the trees of the chart's list, whose front is sought. The search takes the chart's ends
 -- as arrays (`Copied`). A witness is the first path inside limits (`First`).
-use Rattle.std.specs.Prelude.{◌≡◌, false, true, List, [], ◌∷◌, map, ◌%◌, ◌*◌, min, suc, ℕ, T, ltb, get_or, take}
+use Rattle.std.specs.Prelude.{◌≡◌, false, true, List, [], ◌∷◌, map, ◌%◌, ◌*◌, min, suc, ℕ, T, Option as Maybe, ltb, get_or, take}
 use Rattle.std.proofs.Math.Option.{none}
 use Rattle.lists.specs.Lists.{pick, range}
 use Rattle.costs.specs.Costs.{cost_of, front_trees, front_vectors}
@@ -19,7 +19,6 @@ use Rattle.find.specs.Find.{Tables}
 use Rattle.find.specs.Find as find
 use Rattle.costing.specs.Costing.{free_in, tops}
 use Rattle.least.specs.Least.{Ground, OnGround, known_rows, least_of}
-use Rattle.least.specs.declared.Best.{Best}
 use Rattle.paths.specs.Path.{rows_in}
 use Rattle.paths.specs.declared.Path.{Path}
 
@@ -90,7 +89,7 @@ pub record Searched (c firsts seconds heads kinds : List ℕ) (k : ℕ) (prices 
   pub under : (p : List ℕ) → p ∈ list_in c → T (inside (take k tops) (cost_of (table_of kinds k prices leads) p))
 
 -- what the search for the next row answers, where `count` rows of k places are known
-abbrev pub NextOf : List ℕ → List ℕ → ℕ → List ℕ → ℕ → List ℕ → List ℕ → List ℕ → List ℕ → List ℕ → ℕ → Best → Type 0
+abbrev pub NextOf : List ℕ → List ℕ → ℕ → List ℕ → ℕ → List ℕ → List ℕ → List ℕ → List ℕ → List ℕ → ℕ → Maybe (List ℕ) → Type 0
 NextOf firsts seconds limit kinds k prices leads musts free costs count r =
     OnGround firsts seconds limit kinds k prices leads musts free tops
     (λ Of. Lowered Of (Open (known_rows k (take (count * k) costs)) (take k tops)) (Region (known_rows k (take (count * k) costs)) lowest (take k tops)) none (least_of k r))

@@ -4,19 +4,25 @@
 
 ghost use Rattle.std.specs.Prelude.{◌≡◌, ◌*◌, ◌+◌, ◌<◌, ◌≤◌, ℕ, get_or, length};
 ghost use Rattle.std.proofs.Math.Seq.{paste};
+ghost use Rattle.checks.specs.Checks.{answered};
 ghost use Rattle.operations.specs.Operations.{front_call};
 ghost use Rattle.chart.specs.Chart.{width_in};
-ghost use Rattle.chosen.specs.Chosen.{rows_of};
-ghost use Rattle.fronted.specs.Answers.{fronted_of};
-ghost use Rattle.fronted.specs.Filled.{Filled, FilledBy, Holding};
+ghost use Rattle.fronted.specs.Answers.{fronted_of, rows_of};
+ghost use Rattle.fronted.specs.Filled.{Filled, Holding, Lent};
 ghost use Rattle.paths.specs.Path.{rows_in};
-ghost use Rattle.sought.specs.Sought.{Copied, First, Laid, NextOf, Ready, Searched, Wanted, row_of, sought_front, sought_witnesses, step_up, up_from};
+ghost use Rattle.least.specs.Trees.{count_of};
+ghost use Rattle.sought.specs.Sought.{Copied, row_of, step_up, up_from};
+ghost use Rattle.sought.specs.Spaces.{FirstIn, FoundIn, NextIn, ReadyIn, SearchedIn, WantedIn};
 
-use chosen::Chosen;
-use fronted::FrontAnswer;
-use least::Best;
-use network::Opened;
+use chart::Chart;
+use find::Space;
+use fronted::{Room, Rows};
+use labels::Ends;
+use least::Trees;
 use paths::Path;
+use refusals::Refusal;
+use std::array;
+use tally::Criteria;
 
 /// Every component of a tree's vector is below this: 31 rows that cost at most 1,000,000 each.
 const TOP: u64 = 33554432;
@@ -26,7 +32,7 @@ fn above(k: u8, c: u8, x: u64) -> u64
     ensures { result ≡ step_up k c x }
 {
     if c < k {
-        if x < TOP { x + 1 } else { TOP }
+        TOP.min(x.saturating_add(1))
     } else {
         1
     }
@@ -36,123 +42,53 @@ fn above(k: u8, c: u8, x: u64) -> u64
 fn limits_above(k: u8, v: [u64; 4]) -> [u64; 4]
     ensures { result ≡ up_from k v }
 {
-    [
-        above(k, 0, v[0]),
-        above(k, 1, v[1]),
-        above(k, 2, v[2]),
-        above(k, 3, v[3]),
-    ]
+    array::from_fn(|c| above(k, c as u8, v[c]))
 }
 
 // The first ends of the rows, their second ends, and the first ends of the must rows, each with 0 past the rows.
 #[derive(Clone, Copy)]
-struct Ends {
+struct Columns {
     firsts: [u8; 256],
     seconds: [u8; 256],
     heads: [u8; 256],
 }
 
 // The ends of a chart's rows as arrays.
-fn ends_of(chart: &[u64; chart::LENGTH]) -> Ends
-    ensures { Copied chart.now result.firsts result.seconds result.heads }
+fn columns_of(chart: &Chart) -> Columns
+    ensures { Copied chart.now.words result.firsts result.seconds result.heads }
 {
-    let mut firsts = [0u8; 256];
-    let mut seconds = [0u8; 256];
-    let mut heads = [0u8; 256];
-    let m = chart::row_count(chart);
-    let mut r: usize = 0;
-    while r < m {
-        firsts[r] = chart::first_end(chart, false, r);
-        seconds[r] = chart::second_end(chart, false, r);
-        heads[r] = chart::first_end(chart, true, r);
-        r += 1;
-    }
-    Ends {
-        firsts: firsts,
-        seconds: seconds,
-        heads: heads,
+    Columns {
+        firsts: array::from_fn(|r| chart.first_end(false, r)),
+        seconds: array::from_fn(|r| chart.second_end(false, r)),
+        heads: array::from_fn(|r| chart.first_end(true, r)),
     }
 }
 
 // The first path of the list inside the limits: on by a step while a wanted path begins so, else behind all paths that begin so.
-fn witness(
-    chart: &[u64; chart::LENGTH],
-    firsts: &[u8],
-    seconds: &[u8],
-    heads: &[u8],
-    kinds: [u8; 4],
-    k: u8,
-    prices: &[u32],
-    leads: &[u8],
-    limits: [u64; 4],
-) -> Path
-    requires { Ready chart.now firsts.now seconds.now heads.now k × ((c : ℕ) → k ≤ c → c < 4 → 0 < get_or limits c 0) × Wanted chart.now kinds k prices.now leads.now limits }
-    ensures { First chart.now kinds k prices.now leads.now limits result }
+fn witness(chart: &Chart, space: Space<'_>, heads: &[u8], limits: [u64; 4]) -> Path
+    requires { ReadyIn chart.now.words space heads.now × ((c : ℕ) → space.criteria.k ≤ c → c < 4 → 0 < get_or limits c 0) × WantedIn chart.now.words space limits }
+    ensures { FirstIn chart.now.words space.entry limits result }
 {
-    let limit = chart::limit(chart);
-    let width = chart::width(chart);
+    let width = chart.width();
     let mut path = grow::first_path(chart);
-    let mut len: usize = 0;
+    let mut len = 0;
     while len < width {
-        if branch::opens(
-            firsts,
-            seconds,
-            heads,
-            limit,
-            kinds,
-            k,
-            prices,
-            leads,
-            limits,
-            path,
-            len + 1,
-        ) {
+        if branch::opens(space, heads, limits, path, len + 1) {
             len += 1;
         } else {
-            let next = walk::after(chart, path, len + 1);
-            path = next.path;
+            path = walk::after(chart, path, len + 1).unwrap_or(path);
         }
     }
     path
 }
 
 // The least vector that the known rows do not meet.
-fn next_row(
-    firsts: &[u8],
-    seconds: &[u8],
-    limit: u8,
-    kinds: [u8; 4],
-    k: u8,
-    prices: &[u32],
-    leads: &[u8],
-    musts: Chosen,
-    free: [u8; 256],
-    costs: &[u32],
-    count: usize,
-) -> Best
-    requires { count * k ≤ length costs.now }
-    ensures { NextOf firsts.now seconds.now limit kinds k prices.now leads.now (rows_of musts) free costs.now count result }
+fn next_row(trees: &Trees<'_>, costs: &[u32], count: usize) -> Option<[u64; 4]>
+    requires { count * count_of trees.now ≤ length costs.now }
+    ensures { NextIn trees.now costs.now count result }
 {
-    let end = count * k as usize;
-    let none = Best {
-        some: false,
-        vector: [0; 4],
-    };
-    least::least(
-        firsts,
-        seconds,
-        limit,
-        kinds,
-        k,
-        prices,
-        leads,
-        musts,
-        free,
-        &costs[..end],
-        [TOP; 4],
-        [0; 4],
-        none,
-    )
+    let end = count * trees.space.criteria.k as usize;
+    trees.least(&costs[..end], [TOP; 4], [0; 4], None)
 }
 
 // Writes a vector and a path as a row of the lent tables.
@@ -169,120 +105,80 @@ fn write(
     ensures { (costs.new ≡ paste costs.old (count * k) (row_of v) k) × (witnesses.new ≡ paste witnesses.old (count * width) (rows_in path) width) }
 {
     let step = k as usize;
-    let row = [
-        (v[0] % 4294967296) as u32,
-        (v[1] % 4294967296) as u32,
-        (v[2] % 4294967296) as u32,
-        (v[3] % 4294967296) as u32,
-    ];
-    let rows = path.rows;
-    copies::copy_costs(costs, count * step, &row, step);
-    copies::copy_rows(witnesses, count * width, &rows, width);
+    let row = v.map(|x| (x % 4294967296) as u32);
+    copies::copy(costs, count * step, &row, step);
+    copies::copy(witnesses, count * width, &path.rows, width);
 }
 
 // Row after row until none is left, or no more fit.
 fn rows(
-    chart: &[u64; chart::LENGTH],
-    firsts: &[u8],
-    seconds: &[u8],
+    chart: &Chart,
+    space: Space<'_>,
     heads: &[u8],
-    kinds: [u8; 4],
-    k: u8,
-    prices: &[u32],
-    leads: &[u8],
     capacity: usize,
     costs: &mut [u32],
     witnesses: &mut [u16],
-) -> FrontAnswer
-    requires { Searched chart.now firsts.now seconds.now heads.now kinds k prices.now leads.now × Holding capacity k (width_in chart.now) costs.old witnesses.old }
-    ensures { FilledBy
-        (sought_front chart.now kinds k prices.now leads.now)
-        (sought_witnesses chart.now kinds k prices.now leads.now)
-        capacity costs.old witnesses.old (fronted_of result) costs.new witnesses.new }
+) -> Rows
+    requires { SearchedIn chart.now.words space heads.now × Holding capacity space.criteria.k (width_in chart.now.words) costs.old witnesses.old }
+    ensures { FoundIn chart.now.words space.entry capacity costs.old witnesses.old (answered (rows_of result)) costs.new witnesses.new }
 {
-    let limit = chart::limit(chart);
-    let width = chart::width(chart);
+    let k = space.criteria.k;
+    let width = chart.width();
     let musts = costing::musts_of(heads);
-    let free = costing::free_of(firsts, seconds, heads, limit);
-    let mut count: usize = 0;
-    loop {
-        let next = next_row(
-            firsts, seconds, limit, kinds, k, prices, leads, musts, free, costs, count,
-        );
-        if next.some {} else {
-            return FrontAnswer::Rows {
-                count: count,
-                whole: true,
-            };
-        }
-        if count == capacity {
-            return FrontAnswer::Rows {
-                count: count,
-                whole: false,
-            };
-        }
-        let v = next.vector;
-        let limits = limits_above(k, v);
-        let path = witness(
-            chart, firsts, seconds, heads, kinds, k, prices, leads, limits,
-        );
+    let free = costing::free_of(space.ends, heads, space.limit);
+    let trees = Trees { space, musts, free };
+    for count in 0..capacity {
+        let Some(v) = next_row(&trees, costs, count) else {
+            return Rows { count, whole: true };
+        };
+        let path = witness(chart, space, heads, limits_above(k, v));
         write(costs, witnesses, count, k, width, v, path);
-        count += 1;
+    }
+    let whole = next_row(&trees, costs, capacity).is_none();
+    Rows {
+        count: capacity,
+        whole,
     }
 }
 
-// The same, with the tables still to be made, of the chart and of the file that it is of.
-fn fill(
-    file: &[u8],
-    chart: &[u64; chart::LENGTH],
-    k: u8,
-    capacity: usize,
-    costs: &mut [u32],
-    witnesses: &mut [u16],
-) -> FrontAnswer
-    requires { Laid file.now chart.now k × Holding capacity k (width_in chart.now) costs.old witnesses.old }
-    ensures { Filled file.now capacity costs.old witnesses.old (fronted_of result) costs.new witnesses.new }
+// The same, with the tables of the search still to be made.
+fn fill(file: &[u8], room: &Room, costs: &mut [u32], witnesses: &mut [u16]) -> Rows
+    requires { Lent file.now costs.old witnesses.old room.now }
+    ensures { Filled file.now room.now.capacity costs.old witnesses.old (answered (rows_of result)) costs.new witnesses.new }
 {
-    let ends = ends_of(chart);
-    let firsts = ends.firsts;
-    let seconds = ends.seconds;
-    let heads = ends.heads;
-    let m = chart::row_count(chart);
+    let chart = &room.chart;
+    let columns = columns_of(chart);
+    let m = chart.row_count();
     let prices = costing::costs_of(file);
     let leads = costing::leads_of(file);
+    let space = Space {
+        ends: Ends {
+            firsts: &columns.firsts[..m],
+            seconds: &columns.seconds[..m],
+        },
+        limit: chart.limit(),
+        criteria: Criteria {
+            kinds: costing::kinds_of(file),
+            k: room.header.k,
+            costs: &prices,
+            leads: &leads,
+        },
+    };
     rows(
         chart,
-        &firsts[..m],
-        &seconds[..m],
-        &heads[..m],
-        costing::kinds_of(file),
-        k,
-        &prices,
-        &leads,
-        capacity,
+        space,
+        &columns.heads[..m],
+        room.capacity,
         costs,
         witnesses,
     )
 }
 
 /// Front, by search: the first vectors of the front, as many as fit, each with the first tree of the list that has it.
-pub fn front(file: &[u8], costs: &mut [u32], witnesses: &mut [u16]) -> FrontAnswer
+pub fn front(file: &[u8], costs: &mut [u32], witnesses: &mut [u16]) -> Result<Rows, Refusal>
     ensures { record { outcome = fronted_of result; buffers = record { costs = costs.new; witnesses = witnesses.new } }
         ≡ front_call file.now costs.old witnesses.old }
 {
-    let mut chart = [0u64; chart::LENGTH];
-    let opened = listed::listed(file, &mut chart);
-    let Opened::Header(header) = opened else {
-        return fronted::refused(opened);
-    };
-    let k = header.k as usize;
-    if costs.len() < k {
-        return FrontAnswer::Refused(11);
-    }
-    let width = header.n as usize - 1;
-    if witnesses.len() < width {
-        return FrontAnswer::Refused(11);
-    }
-    let capacity = copies::smaller(costs.len() / k, witnesses.len() / width);
-    fill(file, &chart, header.k, capacity, costs, witnesses)
+    let room = fronted::open(file, costs, witnesses)?;
+    Ok(fill(file, &room, costs, witnesses))
 }

@@ -21,21 +21,22 @@ module _ (nb : List ℕ) (fresh : ℕ) where
     unfolding seeds_of
     seeds_none place node h = simp (le-ltb place (length entered) h)
 
-    pub seeds_start : (place node : ℕ) → place < length entered
+    pub seeds_start : (place node i : ℕ) → place < length entered → i ≡ place + 1
         → seeds_of nb fresh entered place node
-        ≡ bit_or (above (open_at nb fresh (get_or entered place 0)) node) (open_from nb fresh entered (length entered - (place + 1)) (place + 1))
+        ≡ bit_or (above (open_at nb fresh (get_or entered place 0)) node) (open_from nb fresh entered (length entered - i) i)
     unfolding seeds_of
-    seeds_start place node h = rw add-one (simp (lt-ltb place (length entered) h))
+    seeds_start place node i h e = rw (e, add-one) (simp (lt-ltb place (length entered) h))
 
-    pub seeds_more : (word i : ℕ) → i < length entered
+    pub seeds_more : (word i j : ℕ) → i < length entered → j ≡ i + 1
         → bit_or word (open_from nb fresh entered (length entered - i) i)
-        ≡ bit_or (bit_or word (open_at nb fresh (get_or entered i 0))) (open_from nb fresh entered (length entered - (i + 1)) (i + 1))
+        ≡ bit_or (bit_or word (open_at nb fresh (get_or entered i 0))) (open_from nb fresh entered (length entered - j) j)
     unfolding open_from
-    seeds_more word i h =
-        let e : length entered - i ≡ suc (length entered - (i + 1)) = omega arith in
+    seeds_more word i j h d =
+        let e : length entered - i ≡ suc (length entered - j) = omega arith in
+        let f : suc i ≡ j = omega arith in
         ap (λ (k : ℕ). bit_or word (open_from nb fresh entered k i)) e
-        ∙ sym (or_assoc word (open_at nb fresh (get_or entered i 0)) (open_from nb fresh entered (length entered - (i + 1)) (suc i)))
-        ∙ ap (λ (k : ℕ). bit_or (bit_or word (open_at nb fresh (get_or entered i 0))) (open_from nb fresh entered (length entered - (i + 1)) k)) (sym (add-one i))
+        ∙ sym (or_assoc word (open_at nb fresh (get_or entered i 0)) (open_from nb fresh entered (length entered - j) (suc i)))
+        ∙ ap (λ (k : ℕ). bit_or (bit_or word (open_at nb fresh (get_or entered i 0))) (open_from nb fresh entered (length entered - j) k)) f
 
     pub seeds_end : (word i : ℕ) → length entered ≤ i → bit_or word (open_from nb fresh entered (length entered - i) i) ≡ word
     unfolding open_from

@@ -1,8 +1,9 @@
--- What `number` is given, the chart of a file (`ChartOf`), and what its answer stands for (`numbered`).
-use Rattle.std.specs.Prelude.{◌≡◌, List, ℕ, eqb}
+-- What `check` is given, the chart of a file (`ChartOf`), and what its answer stands for (`numbered`).
+use Rattle.std.specs.Prelude.{Err, Ok, Result, ◌≡◌, List, ℕ}
 use Rattle.std.proofs.Math.Option.{Option, none, some}
-use Rattle.lists.specs.Lists.{pick}
 use Rattle.checks.specs.Checks.{first_unmet}
+use Rattle.refusals.specs.Refusals.{number_of}
+use Rattle.refusals.specs.declared.Refusal.{Refusal}
 use Rattle.chart.specs.Chart.{Blank, file_chart_on}
 use Rattle.network_file.specs.File.{file_checks}
 
@@ -13,6 +14,7 @@ pub record ChartOf (f c : List ℕ) : Type 0 where
   pub empty : Blank lent
   pub made : c ≡ file_chart_on f lent
 
--- the number of a check that is not met; 0 stands for none
-abbrev pub numbered : ℕ → Option ℕ
-numbered e = pick (eqb e 0) none (some e)
+-- the number of the check by which a call is refused; none where it is not
+abbrev pub numbered : {A : Type 0} → Result A Refusal → Option ℕ
+numbered (Ok a) = none
+numbered (Err e) = some (number_of e)

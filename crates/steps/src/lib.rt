@@ -1,46 +1,33 @@
-//! The steps of a path in a network file: how many there are, and of each its row, its cost in a criterion and its street.
+//! The steps of a path by their rows, and what a row costs in a network file.
 #![tactic(auto)]
 
-ghost use Rattle.std.specs.Prelude.{◌≡◌, ◌≤◌, max, length};
+ghost use Rattle.std.specs.Prelude.{◌≡◌, ◌^◌, ◌<◌, ◌≤◌, length};
 ghost use Rattle.costs.specs.Costs.{cost_at};
 ghost use Rattle.costs.specs.Network.{row_at};
 ghost use Rattle.network_file.specs.File.{network_of};
 ghost use Rattle.paths.specs.Path.{rows_in};
-ghost use Rattle.steps.specs.Steps.{step_row};
 
 use paths::Path;
 
-/// How many rows the path has.
-pub fn count(path: Path) -> usize
-    ensures { (result ≡ length (rows_in path)) × (result ≤ 31) }
+/// The rows of the path's steps, in their order.
+pub fn rows(path: &Path) -> &[u16]
+    ensures rows { result.now ≡ rows_in path.now }
+    ensures few { length result.now ≤ 31 }
 {
-    path.length()
+    &path.rows[..path.length()]
 }
 
-/// The row of step i; 0 where the path has no such step.
-pub fn row_of(path: Path, i: usize) -> usize
-    ensures { result ≡ step_row (rows_in path) i }
+/// The cost of a row in a criterion.
+pub fn cost_of(file: &[u8], criterion: usize, row: u16) -> u64
+    ensures cost { result ≡ cost_at (network_of file.now) criterion row }
+    ensures fits { result < 2 ^ 32 }
 {
-    path.row_at(i) as usize
+    u64::from(fields::cost_at(file, criterion, usize::from(row)))
 }
 
-/// The cost of the row of step i.
-pub fn cost_of(file: &[u8], criterion: usize, path: Path, i: usize) -> u64
-    ensures { result ≡ cost_at (network_of file.now) criterion (step_row (rows_in path) i) }
+/// The street of a row.
+pub fn street_of(file: &[u8], row: u16) -> u16
+    ensures { result ≡ (row_at (network_of file.now) row).street }
 {
-    fields::cost_at(file, criterion, row_of(path, i)) as u64
-}
-
-/// The street of the row of step i.
-pub fn street_of(file: &[u8], path: Path, i: usize) -> u16
-    ensures { result ≡ (row_at (network_of file.now) (step_row (rows_in path) i)).street }
-{
-    fields::street_at(file, row_of(path, i))
-}
-
-/// The larger of two costs.
-pub fn larger(a: u64, b: u64) -> u64
-    ensures { result ≡ max a b }
-{
-    if a < b { b } else { a }
+    fields::street_at(file, usize::from(row))
 }

@@ -1,8 +1,7 @@
--- Two accepted files by their sizes as they were read (`file_fits`, `rows_read`). The file that is written, by its parts as the code puts them: the head, the older rows that
+-- The file that is written of two accepted files, by its parts as the code puts them: the head, the older rows that
 -- stand, the newer rows (`file_parts`); how many rows that are (`rows_in_all`) and how long it is (`file_size`); and the parts put one behind the other into a buffer with room
 -- (`file_put`).
 use mathlib.Core.Path.{◌∙◌, ◌≡◌, ap, ap₂, refl, sym}
-use mathlib.Core.Option.{none}
 use mathlib.Core.List.{List, ◌++◌, append_assoc}
 use Prim.Native.Nat.{◌*◌, ◌+◌, ◌≤◌, ℕ}
 use native.Mathlib.Omega.{arith}
@@ -10,12 +9,10 @@ use lib.ListN.{length, length-append}
 use Rattle.lists.specs.Lists.{concat_map}
 use Rattle.lists.proofs.Sequences.{concat_map_append}
 use Rattle.lists.proofs.Tests.{T_true}
-use Rattle.checks.specs.Checks.{first_unmet}
 use Rattle.costs.specs.Network.{Network, Row}
 use Rattle.network_file.specs.Bytes.{body_bytes, bytes_of_row, file_of}
-use Rattle.network_file.specs.File.{Sizes, file_checks, network_of, row_start, sizes_of}
+use Rattle.network_file.specs.File.{network_of}
 use Rattle.network_file.proofs.Accepted.{accepted, rows_length}
-use Rattle.network.specs.Rows.{Fitting}
 use Rattle.operations.specs.Operations.{over}
 use Rattle.frames.specs.Frame.{Frame, Framing}
 use Rattle.printout.specs.Text.{Filled, filled, put}
@@ -27,10 +24,6 @@ use Rattle.survey.specs.Head.{follow_bytes, head_bytes}
 abbrev rows_bytes : List Row → List ℕ
 rows_bytes rows = concat_map (bytes_of_row 2) rows
 
--- an accepted file can be read in place
-pub file_fits : (f : List ℕ) → first_unmet (file_checks f) ≡ none → {s : Sizes} → s ≡ sizes_of f → Fitting f s
-file_fits f met are = record { same = are; long = (accepted f met).long ∙ ap (row_start f) (sym (ap {B = ℕ} (λ z. z.m) are)) }
-
 -- two files of one frame, both accepted, with their sizes as they were read
 module _ {older newer : List ℕ} {x : Frame} (framing : Framing older newer x) where
   abbrev stood : List Row
@@ -38,9 +31,6 @@ module _ {older newer : List ℕ} {x : Frame} (framing : Framing older newer x) 
 
   abbrev joined : Network
   joined = survey_network (network_of older) (network_of newer)
-
-  pub rows_read : x.first.m ≡ length (network_of older).rows
-  rows_read = ap {B = ℕ} (λ z. z.m) framing.first_sizes ∙ sym (rows_length older)
 
   pub rows_in_all : (count : ℕ) → count ≡ length stood → count + x.second.m ≡ length joined.rows
   rows_in_all count counted = omega (arith, counted, length-append stood (network_of newer).rows, rows_length newer, ap {B = ℕ} (λ z. z.m) framing.second_sizes)

@@ -1,13 +1,14 @@
 -- The rows of a file by the sizes as they were read: there are as many (`row_there`, `rows_few`), each with as many costs (`row_wide`). A row put into a buffer
 -- (`row_put`), and what stands before the rows (`head_put`), with the bounds of its numbers (`head_few`).
-use mathlib.Core.Path.{◌∙◌, ◌≡◌, ap, ap₂, subst, sym}
+use mathlib.Core.Path.{◌∙◌, ◌≡◌, ap, ap₂, refl, subst, sym}
 use mathlib.Core.Option.{none}
 use mathlib.Core.List.{List, [], ◌++◌, ◌∷◌}
 use Prim.Native.Nat.{◌%◌, ◌*◌, ◌+◌, ◌-◌, ◌/◌, ◌<◌, ◌≤◌, ℕ}
 use native.Mathlib.Nat.{mul-le-mul}
 use native.Mathlib.Omega.{arith}
-use lib.ListN.{drop, length, take}
-use lib.Seq.{take_all}
+use lib.ListN.{drop, get_or, length, take}
+use Rattle.std.specs.Int.{to_be_bytes}
+use Rattle.std.proofs.Common.{w16}
 use Rattle.lists.specs.Lists.{concat_map}
 use Rattle.checks.specs.Checks.{first_unmet}
 use Rattle.costs.specs.Network.{Row, row_at}
@@ -22,7 +23,7 @@ use Rattle.printout.proofs.Laws.{behind}
 use Rattle.survey.specs.Head.{follow_bytes, head_bytes}
 
 module _ (f : List ℕ) (s : Sizes) (are : s ≡ sizes_of f) where
-  rows_are : length (network_of f).rows ≡ s.m
+  pub rows_are : length (network_of f).rows ≡ s.m
   rows_are = rows_length f ∙ ap {B = ℕ} (λ z. z.m) (sym are)
 
   pub row_there : (r : ℕ) → r < s.m → r < length (network_of f).rows
@@ -36,15 +37,19 @@ module _ (f : List ℕ) (s : Sizes) (are : s ≡ sizes_of f) where
       let there : r < (sizes_of f).m = subst (λ (z : Sizes). r < z.m) are h in
       ap {B = ℕ} (λ z. z.k) are ∙ sym (ap {B = ℕ} (λ x. length x.costs) (row_in_lem f r there) ∙ row_costs f r)
 
--- the bytes before the costs, of a row as it was read, and then all its costs
-pub row_put : (row : Row) (lead : code.Row) → row_with lead row.costs ≡ row → (k : ℕ) → k ≡ length row.costs → (state : ℕ) → state ≡ state_number (state_in lead.state)
+-- a number of two bytes, as the library writes it
+pub two_bytes : (x : ℕ) {written : List ℕ} → x < 65536 → written ≡ to_be_bytes w16 x → (get_or written 0 0 ≡ x / 256) × (get_or written 1 0 ≡ x % 256)
+two_bytes x small is = rw is (omega arith, refl)
+
+-- the bytes before the costs, of a row as it was read, and then its costs
+pub row_put : (row : Row) (lead : code.Row) → row_with lead row.costs ≡ row → (state : ℕ) → state ≡ state_number (state_in lead.state)
     → (out : List ℕ) (at : ℕ) {between after : List ℕ} {place end : ℕ}
     → filled between place ≡ put out at (lead.first ∷ lead.second ∷ lead.street / 256 ∷ lead.street % 256 ∷ state ∷ [])
-    → filled after end ≡ put between place (concat_map u32_bytes (take k row.costs)) → filled after end ≡ put out at (bytes_of_row 2 row)
-row_put row lead read k wide state stated out at first costs =
+    → filled after end ≡ put between place (concat_map u32_bytes row.costs) → filled after end ≡ put out at (bytes_of_row 2 row)
+row_put row lead read state stated out at first costs =
     let before : ℕ → List ℕ = λ b. lead.first ∷ lead.second ∷ lead.street / 256 ∷ lead.street % 256 ∷ b ∷ [] in
-    behind out at (before state) (concat_map u32_bytes (take k row.costs)) first costs
-    ∙ ap₂ (λ (b : ℕ) (l : List ℕ). put out at (before b ++ concat_map u32_bytes l)) stated (take_all k row.costs (omega (arith, wide)))
+    behind out at (before state) (concat_map u32_bytes row.costs) first costs
+    ∙ ap (λ (b : ℕ). put out at (before b ++ concat_map u32_bytes row.costs)) stated
     ∙ ap (λ (x : Row). put out at (bytes_of_row 2 x)) read
 
 -- what stands before m rows, by a file's sizes and the bytes of its kinds

@@ -1,9 +1,8 @@
--- What each case of the code's answer says in document 02's terms.
-use Rattle.std.specs.Prelude.{ℕ}
-use Rattle.checks.specs.Checks.{Outcome, answered, refused}
-use Rattle.survey.specs.declared.SurveyAnswer.{SurveyAnswer}
-use Rattle.survey.specs.declared.SurveyAnswer.TheVariants as answer
+-- What the code's answer says in document 02's terms.
+use Rattle.std.specs.Prelude.{ℕ, Result}
+use Rattle.checks.specs.Checks.{Outcome}
+use Rattle.refusals.specs.Refusals.{outcome_of}
+use Rattle.refusals.specs.declared.Refusal.{Refusal}
 
-abbrev pub surveyed_of : SurveyAnswer → Outcome ℕ
-surveyed_of (answer.Length length) = answered length
-surveyed_of (answer.Refused e) = refused e
+abbrev pub surveyed_of : Result ℕ Refusal → Outcome ℕ
+surveyed_of = outcome_of (λ length. length)

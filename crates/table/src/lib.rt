@@ -7,7 +7,7 @@ ghost use Rattle.table.specs.Enter.{enter_call, filled};
 ghost use Rattle.table.specs.Parts.{Closed, place_in, staying};
 
 /// What entering came to: the tables have fewer rows than said; a row equals or dominates the vector; there is no room; the new count.
-#[derive(Clone, Copy)]
+#[derive(Clone, Copy, Debug, PartialEq, Eq)]
 pub enum Entered {
     Unfit,
     Met,
@@ -21,17 +21,13 @@ fn place_of(costs: &[u32], count: usize, vector: &[u32]) -> usize
     ensures { result ≡ place_in costs.now count vector.now }
 {
     let k = vector.len();
-    let mut i: usize = 0;
-    while i < count {
+    for i in 0..count {
         let from = i * k;
-        let end = from + k;
-        if compare::less(&costs[from..end], vector) {
-            i += 1;
-        } else {
+        if !compare::less(&costs[from..from + k], vector) {
             return i;
         }
     }
-    i
+    count
 }
 
 // Closes up the rows that the vector does not dominate, and counts them.
@@ -47,19 +43,14 @@ fn close_up(
         costs.old witnesses.old result costs.new witnesses.new }
 {
     let k = vector.len();
-    let mut kept: usize = 0;
-    let mut i: usize = 0;
-    while i < count {
-        let at = i;
-        i += 1;
-        let from = at * k;
-        let end = from + k;
-        if compare::dominates(vector, &costs[from..end]) {
-            continue;
+    let mut kept = 0;
+    for i in 0..count {
+        let from = i * k;
+        if !compare::dominates(vector, &costs[from..from + k]) {
+            copies::shift(costs, from, kept * k, k);
+            copies::shift(witnesses, i * w, kept * w, w);
+            kept += 1;
         }
-        copies::move_costs(costs, from, kept * k, k);
-        copies::move_rows(witnesses, at * w, kept * w, w);
-        kept += 1;
     }
     kept
 }
@@ -83,7 +74,7 @@ pub fn enter(
     if w == 0 {
         return Entered::Unfit;
     }
-    let room = copies::smaller(costs.len() / k, witnesses.len() / w);
+    let room = (costs.len() / k).min(witnesses.len() / w);
     if room < count {
         return Entered::Unfit;
     }
@@ -95,7 +86,7 @@ pub fn enter(
         return Entered::Full;
     }
     let place = place_of(costs, kept, vector);
-    copies::insert_costs(costs, place * k, kept * k, vector);
-    copies::insert_rows(witnesses, place * w, kept * w, path);
+    copies::insert(costs, place * k, kept * k, vector);
+    copies::insert(witnesses, place * w, kept * w, path);
     Entered::Rows(kept + 1)
 }

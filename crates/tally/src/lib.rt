@@ -1,15 +1,25 @@
-//! What rows cost by tables: `kinds` has the kinds of k criteria, `leads` of each row the first row of its street, and `costs` the cost of
-//! row r in criterion c at place c * 256 + r. A row of no street is the first of its own. Sums are of at most 31 rows and fit 64 bits.
+//! What rows cost by tables. A row of no street is the first of its own. Sums are of at most 31 rows and fit 64 bits.
 //! Each function is equal to its model in specs/Tally.antt, on every input.
 #![tactic(auto)]
 
-ghost use Rattle.std.specs.Prelude.{◌≡◌, ◌-◌, ltb};
+ghost use Rattle.std.specs.Prelude.{◌≡◌, ◌≤◌, get_or, ltb};
 ghost use Rattle.lists.specs.Lists.{pick};
 ghost use Rattle.chosen.specs.Chosen.{rows_of};
-ghost use Rattle.tally.specs.Tally.{added_in, closing_in, cost_in, days_in, kind_cost, vector_in, worst_in};
+ghost use Rattle.tally.specs.Kinds.{number_of, numbers_of};
+ghost use Rattle.tally.specs.Tally.{added_in, closing_in, component_in, cost_in, days_in, kind_cost, lead_in, vector_in, worst_in};
 ghost use Rattle.completions.specs.Boxes.{inside as inside_of};
 
 use chosen::Chosen;
+use fields::Kind;
+
+/// By what trees are measured: the kinds of k criteria, the cost of row r in criterion c at place c * 256 + r, and of each row the first row of its street.
+#[derive(Clone, Copy, Debug, PartialEq, Eq)]
+pub struct Criteria<'a> {
+    pub kinds: [Kind; 4],
+    pub k: u8,
+    pub costs: &'a [u32],
+    pub leads: &'a [u8],
+}
 
 /// Days by street, each at the place of its first row, and their sum.
 #[derive(Clone, Copy)]
@@ -18,121 +28,106 @@ pub struct Paid {
     pub days: [u32; 256],
 }
 
-/// The cost of a row in a criterion.
-pub fn cost_at(costs: &[u32], c: u8, r: u8) -> u32
-    ensures { result ≡ cost_in costs.now c r }
-{
-    let at = c as usize * 256 + r as usize;
-    if at < costs.len() { costs[at] } else { 0 }
-}
+impl Criteria<'_> {
+    /// How many criteria there are: at most four.
+    pub fn count(self) -> u8
+        ensures { (result ≡ pick (ltb self.entry.k 4) self.entry.k 4) × (result ≤ 4) }
+    {
+        self.k.min(4)
+    }
 
-/// How much a is above b.
-pub fn above(a: u32, b: u32) -> u32
-    ensures { result ≡ a - b }
-{
-    if b < a { a - b } else { 0 }
-}
+    /// The cost of a row in a criterion.
+    pub fn cost_at(self, c: u8, row: u8) -> u32
+        ensures { result ≡ cost_in self.entry.costs.now c row }
+    {
+        slices::at(self.costs, c as usize * 256 + row as usize, 0)
+    }
 
-/// What the rows pay for closing streets, street by street and in all.
-pub fn paid_of(costs: &[u32], leads: &[u8], c: u8, rows: Chosen) -> Paid
-    ensures { (result.sum ≡ closing_in costs.now leads.now c (rows_of rows)) × (result.days ≡ days_in costs.now leads.now c (rows_of rows)) }
-{
-    let mut sum: u64 = 0;
-    let mut days = [0u32; 256];
-    let mut i = rows.count();
-    while 0 < i {
-        i -= 1;
-        let r = rows.row_at(i);
-        let lead = slices::byte_at(leads, r as usize) as usize;
-        let cost = cost_at(costs, c, r);
-        let paid = days[lead];
-        sum += above(cost, paid) as u64;
-        if paid < cost {
-            days[lead] = cost;
+    /// The first row of a row's street.
+    pub fn lead_of(self, row: u8) -> u8
+        ensures { result ≡ lead_in self.entry.leads.now row }
+    {
+        slices::at(self.leads, row as usize, 0)
+    }
+
+    /// What the rows pay for closing streets, street by street and in all.
+    pub fn paid_of(self, c: u8, rows: Chosen) -> Paid
+        ensures sum { result.sum ≡ closing_in self.entry.costs.now self.entry.leads.now c (rows_of rows) }
+        ensures days { result.days ≡ days_in self.entry.costs.now self.entry.leads.now c (rows_of rows) }
+    {
+        let mut sum = 0u64;
+        let mut days = [0u32; 256];
+        for &row in rows.rows().iter().rev() {
+            let lead = self.lead_of(row) as usize;
+            let cost = self.cost_at(c, row);
+            let paid = days[lead];
+            sum += cost.saturating_sub(paid) as u64;
+            days[lead] = paid.max(cost);
+        }
+        Paid { sum, days }
+    }
+
+    /// The sum over the rows.
+    pub fn added(self, c: u8, rows: Chosen) -> u64
+        ensures { result ≡ added_in self.entry.costs.now c (rows_of rows) }
+    {
+        rows.rows()
+            .iter()
+            .map(|&row| self.cost_at(c, row) as u64)
+            .sum()
+    }
+
+    /// The largest cost among the rows.
+    pub fn worst(self, c: u8, rows: Chosen) -> u32
+        ensures { result ≡ worst_in self.entry.costs.now c (rows_of rows) }
+    {
+        rows.rows()
+            .iter()
+            .fold(0, |most, &row| most.max(self.cost_at(c, row)))
+    }
+
+    /// The kind of a criterion; past the four a sum.
+    pub fn kind_at(self, c: u8) -> Kind
+        ensures { number_of result ≡ get_or (numbers_of self.entry.kinds) c 0 }
+    {
+        slices::at(&self.kinds, c as usize, Kind::Added)
+    }
+
+    /// The cost of rows in a criterion, by its kind.
+    pub fn cost_of(self, c: u8, rows: Chosen) -> u64
+        ensures { result ≡ kind_cost (get_or (numbers_of self.entry.kinds) c 0) self.entry.costs.now self.entry.leads.now c (rows_of rows) }
+    {
+        match self.kind_at(c) {
+            Kind::Added => self.added(c, rows),
+            Kind::Worst => self.worst(c, rows) as u64,
+            Kind::Closing => self.paid_of(c, rows).sum,
         }
     }
-    Paid {
-        sum: sum,
-        days: days,
-    }
-}
 
-/// The sum over the rows.
-pub fn added(costs: &[u32], c: u8, rows: Chosen) -> u64
-    ensures { result ≡ added_in costs.now c (rows_of rows) }
-{
-    let mut sum: u64 = 0;
-    let mut i = rows.count();
-    while 0 < i {
-        i -= 1;
-        sum += cost_at(costs, c, rows.row_at(i)) as u64;
+    // The cost in a criterion; 0 where there is no such criterion.
+    fn component(self, c: u8, rows: Chosen) -> u64
+        ensures { result ≡ component_in (numbers_of self.entry.kinds) self.entry.k self.entry.costs.now self.entry.leads.now (rows_of rows) c }
+    {
+        if c < self.k { self.cost_of(c, rows) } else { 0 }
     }
-    sum
-}
 
-/// The largest cost among the rows.
-pub fn worst(costs: &[u32], c: u8, rows: Chosen) -> u32
-    ensures { result ≡ worst_in costs.now c (rows_of rows) }
-{
-    let mut most: u32 = 0;
-    let mut i = rows.count();
-    while 0 < i {
-        i -= 1;
-        let cost = cost_at(costs, c, rows.row_at(i));
-        if most < cost {
-            most = cost;
-        }
+    /// The cost vector of rows; the places past the last criterion are 0.
+    pub fn vector(self, rows: Chosen) -> [u64; 4]
+        ensures { result ≡ vector_in (numbers_of self.entry.kinds) self.entry.k self.entry.costs.now self.entry.leads.now (rows_of rows) }
+    {
+        [
+            self.component(0, rows),
+            self.component(1, rows),
+            self.component(2, rows),
+            self.component(3, rows),
+        ]
     }
-    most
-}
-
-/// The cost of rows by its kind.
-pub fn cost_of(kind: u8, costs: &[u32], leads: &[u8], c: u8, rows: Chosen) -> u64
-    ensures { result ≡ kind_cost kind costs.now leads.now c (rows_of rows) }
-{
-    match kind {
-        0 => added(costs, c, rows),
-        1 => worst(costs, c, rows) as u64,
-        2..=255 => {
-            let paid = paid_of(costs, leads, c, rows);
-            paid.sum
-        }
-    }
-}
-
-// The cost in a criterion; 0 where there is no such criterion.
-fn criterion_cost(kind: u8, k: u8, costs: &[u32], leads: &[u8], c: u8, rows: Chosen) -> u64
-    ensures { result ≡ pick (ltb c k) (kind_cost kind costs.now leads.now c (rows_of rows)) 0 }
-{
-    if c < k {
-        cost_of(kind, costs, leads, c, rows)
-    } else {
-        0
-    }
-}
-
-/// The cost vector of rows; the places past the last criterion are 0.
-pub fn vector(kinds: [u8; 4], k: u8, costs: &[u32], leads: &[u8], rows: Chosen) -> [u64; 4]
-    ensures { result ≡ vector_in kinds k costs.now leads.now (rows_of rows) }
-{
-    [
-        criterion_cost(kinds[0], k, costs, leads, 0, rows),
-        criterion_cost(kinds[1], k, costs, leads, 1, rows),
-        criterion_cost(kinds[2], k, costs, leads, 2, rows),
-        criterion_cost(kinds[3], k, costs, leads, 3, rows),
-    ]
 }
 
 /// Whether each component is below its limit.
 pub fn inside(limits: [u64; 4], v: [u64; 4]) -> bool
     ensures { result ≡ inside_of limits v }
 {
-    if v[0] < limits[0] {
-        if v[1] < limits[1] {
-            if v[2] < limits[2] {
-                return v[3] < limits[3];
-            }
-        }
-    }
-    false
+    // by place: over a zip of the two the proof didn't close
+    (0..4).all(|c| v[c] < limits[c])
 }

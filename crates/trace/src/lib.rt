@@ -6,6 +6,7 @@ ghost use Rattle.chart.specs.Chart.{plant_in};
 ghost use Rattle.paths.specs.Path.{keys_of, plant_of};
 ghost use Rattle.trace.specs.Trace.{end_by, entry_after, place_by, traced_in};
 
+use chart::Chart;
 use paths::Path;
 
 // The end that a row enters: the second one where the first has an entry, else the first.
@@ -21,12 +22,12 @@ fn place_by(first: u8, second: u8, i: usize) -> u8
     ensures { result ≡ place_by first second i }
 {
     if 0 < first {
-        return first - 1;
+        first - 1
+    } else if 0 < second {
+        second - 1
+    } else {
+        i as u8 + 1
     }
-    if 0 < second {
-        return second - 1;
-    }
-    i as u8 + 1
 }
 
 // The entry of the node that row i enters, from its entry so far.
@@ -38,39 +39,33 @@ fn entry_after(entry: u8, i: usize) -> u8
 }
 
 /// The path of these rows, each a step from its entered end to its other end.
-pub fn trace(chart: &[u64; chart::LENGTH], rows: &[u16]) -> Path
-    ensures { (plant_of result ≡ plant_in chart.now) × (keys_of result ≡ traced_in chart.now rows.now) }
+pub fn trace(chart: &Chart, rows: &[u16]) -> Path
+    ensures { (plant_of result ≡ plant_in chart.now.words) × (keys_of result ≡ traced_in chart.now.words rows.now) }
 {
-    let plant = chart::plant(chart);
+    let plant = chart.plant();
+    // not by Path::start, which misses the speed of this form: its answer is copied
     let mut path = Path {
         rows: [0; 31],
         nodes: [plant; 32],
         pivots: [0; 31],
         len: 0,
     };
-    // of each node the place at which it is first entered, plus 1; 0 where it is not entered
+    // of each node the place at which it is first entered, plus 1; 0 where it is not entered: numbers, as specs/Trace.antt has them
     let mut entries = [0u8; 256];
     entries[plant as usize] = 1;
-    let mut i: usize = 0;
-    while i < rows.len() {
-        // a path has room for 31 steps
-        if 31 <= i {
-            return path;
-        }
-        let row = rows[i];
-        let a = chart::first_end(chart, false, row as usize);
-        let b = chart::second_end(chart, false, row as usize);
+    // a path has room for 31 steps
+    let n = rows.len().min(31);
+    for (i, &row) in rows[..n].iter().enumerate() {
+        let (a, b) = chart.ends(false, row as usize);
         let first = entries[a as usize];
         let second = entries[b as usize];
         let node = end_by(first, a, b);
-        let place = place_by(first, second, i);
         // stored in place, since to hand the path over would copy it at each row
         path.rows[i] = row;
         path.nodes[i + 1] = node;
-        path.pivots[i] = place;
+        path.pivots[i] = place_by(first, second, i);
         path.len = i + 1;
         entries[node as usize] = entry_after(entries[node as usize], i);
-        i += 1;
     }
     path
 }

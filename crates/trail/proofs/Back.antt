@@ -3,6 +3,7 @@
 use mathlib.Core.Path.{◌∙◌, ◌≡◌, ap, sym}
 use mathlib.Core.Bool.{Bool, false, true}
 use mathlib.Core.Option.{Option, none, some}
+use Rattle.std.specs.Prelude.{None, Some}
 use mathlib.Core.List.{List}
 use Prim.Native.Nat.{◌-◌, ◌<◌, ◌≤◌, suc, ℕ}
 use native.Mathlib.Omega.{arith}
@@ -46,7 +47,7 @@ LeftAt c keys i = after_of c (plant_in c) keys (length keys) ≡ after_from c (p
 -- Where a step has no other row: if its node is found to be still reached behind it, the bound moves up to it, and else the walk goes on back.
 abbrev pub BoundWays : List ℕ → List ℕ → List ℕ → List Key → ℕ → ℕ → Bool → Type 0
 BoundWays c entered pivots keys n j found =
-    (found ≡ true → TurnsTo c (plant_in c) keys (record { some = true; at = j; place = get_or pivots j 0; node = get_or entered n 0; row = 0 })) × (found ≡ false → LeftAt c keys j)
+    (found ≡ true → TurnsTo c (plant_in c) keys (Some (record { at = j; place = get_or pivots j 0; node = get_or entered n 0; row = 0 }))) × (found ≡ false → LeftAt c keys j)
 
 -- with no node at the end of a must row there is none
 pub none_kept : {c : List ℕ} → MustsLead c → get_or (near_in true c) 0 0 ≡ 0 → (row : ℕ) → false ≡ must_row (firsts_in true c) row
@@ -64,16 +65,8 @@ module _ {c entered pivots sets rows : List ℕ} {keys : List Key} (w : Walked c
   left_start = rw rows_long (after_start c (plant_in c) (length keys) (length keys) keys (omega arith))
 
   -- no step is left
-  pub left_over : (i : ℕ) → i ≤ 0 → LeftAt c keys i → (place node row : ℕ)
-      → TurnsTo c (plant_in c) keys (record { some = false; at = 0; place = place; node = node; row = row })
-  left_over i h left place node row = record {
-    last = λ e. left ∙ after_over c (plant_in c) i (fresh_at c keys i) keys h;
-    next = λ e. absurd (no_turn e);
-    names = λ e. absurd (no_turn e);
-  }
-    where
-      no_turn : ¬ (false ≡ true)
-      no_turn e = let z : ◌≡◌ {A = ℕ} 0 1 = cc in omega arith
+  pub left_over : (i : ℕ) → i ≤ 0 → LeftAt c keys i → TurnsTo c (plant_in c) keys None
+  left_over i h left = left ∙ after_over c (plant_in c) i (fresh_at c keys i) keys h
 
   -- step j, the last of the first n
   module _ (n j : ℕ) (e : n ≡ suc j) (h : n ≤ length rows) (left : LeftAt c keys n) where
@@ -92,9 +85,6 @@ module _ {c entered pivots sets rows : List ℕ} {keys : List Key} (w : Walked c
     pub place_is : get_or pivots j 0 ≡ (get_or keys j no_key).place
     place_is = pivot_at_lem w.holds j within
 
-    pub place_less : get_or pivots j 0 < 32
-    place_less = omega (arith, within, place_is, place_low w.right keys w.full j within, w.holds.few)
-
     abbrev skipped : Option (List Key)
     skipped = skip_of c (plant_in c) (width_in c - j) (fresh_at c keys j) (take j keys) k
 
@@ -106,22 +96,18 @@ module _ {c entered pivots sets rows : List ℕ} {keys : List Key} (w : Walked c
     on o = asked ∙ ap (λ (o : Option (List Key)). or_else o (after_from c (plant_in c) j (fresh_at c keys j) keys)) (sym o)
 
     turns : (row : ℕ) → some (turned_by c (plant_in c) keys j row) ≡ skipped
-        → TurnsTo c (plant_in c) keys (record { some = true; at = j; place = get_or pivots j 0; node = get_or entered n 0; row = row })
-    turns row o = record {
-      last = λ d. absurd (no_last d);
-      next = λ d. asked ∙ ap (λ (o : Option (List Key)). or_else o (after_from c (plant_in c) j (fresh_at c keys j) keys)) (sym o);
-      names = λ d. record { inside = omega (arith, within); changes = λ z. within; place_is = place_is; node_is = node_is };
-    }
-      where
-        no_last : ¬ (true ≡ false)
-        no_last d = let z : ◌≡◌ {A = ℕ} 0 1 = cc in omega arith
+        → TurnsTo c (plant_in c) keys (Some (record { at = j; place = get_or pivots j 0; node = get_or entered n 0; row = row }))
+    turns row o = (
+      asked ∙ ap (λ (o : Option (List Key)). or_else o (after_from c (plant_in c) j (fresh_at c keys j) keys)) (sym o),
+      record { inside = omega (arith, within); changes = λ z. within; place_is = place_is; node_is = node_is },
+    )
 
     pub kept_must : must_row (firsts_in true c) (get_or rows j 0) ≡ true → LeftAt c keys j
     kept_must t = on (skip_must c (plant_in c) (width_in c - j) (fresh_at c keys j) (take j keys) k (rw row_is at t))
 
     -- of a row that is not a must row
     module _ (free : must_row (firsts_in true c) (get_or rows j 0) ≡ false) {next : ℕ} (read : next ≡ next_in c (get_or rows j 0)) where
-      pub turn_row : ¬ (next ≡ 0) → TurnsTo c (plant_in c) keys (record { some = true; at = j; place = get_or pivots j 0; node = get_or entered n 0; row = next })
+      pub turn_row : ¬ (next ≡ 0) → TurnsTo c (plant_in c) keys (Some (record { at = j; place = get_or pivots j 0; node = get_or entered n 0; row = next }))
       unfolding turned_by
       turn_row d = turns next (rw (ne_eqb next 0 d)
           (skip_row_lem c (plant_in c) (width_in c - j) (fresh_at c keys j) (take j keys) k (rw row_is at free) (rw row_is at read) d))

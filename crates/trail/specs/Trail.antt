@@ -1,6 +1,6 @@
 -- A path that is kept in lent arrays (`Holds`): in the first places the nodes entered, the places of the pivots, and the sets of the nodes entered up to each place.
 -- A turn of the walk (`Turn`): from which step on the path changes, and by which row; what it makes of the path (`turned_by`), and that it is the walk's next (`TurnsTo`).
-use Rattle.std.specs.Prelude.{◌≡◌, Bool, false, true, List, [], ◌∷◌, map, ◌-◌, ◌<◌, ◌≤◌, suc, ℕ, eqb, get_or, length, take}
+use Rattle.std.specs.Prelude.{Option, None, Some, ◌≡◌, Bool, false, true, List, [], ◌∷◌, map, ◌-◌, ◌<◌, ◌≤◌, suc, ℕ, eqb, get_or, length, take}
 use Rattle.std.proofs.Math.Option.{none, some}
 use Rattle.std.specs.Int.Bits.{bit_and, bit_or}
 use Rattle.lists.specs.Lists.{pick, range}
@@ -62,7 +62,6 @@ pub record Names (keys : List Key) (t : Turn) : Type 0 where
   pub node_is : t.node ≡ (get_or keys t.at no_key).node
 
 -- a turn makes of a path the next of the walk, or there is none
-pub record TurnsTo (c : List ℕ) (plant : ℕ) (keys : List Key) (t : Turn) : Type 0 where
-  pub last : t.some ≡ false → after_of c plant keys (length keys) ≡ none
-  pub next : t.some ≡ true → after_of c plant keys (length keys) ≡ some (turned_by c plant keys t.at t.row)
-  pub names : t.some ≡ true → Names keys t
+abbrev pub TurnsTo : List ℕ → ℕ → List Key → Option Turn → Type 0
+TurnsTo c plant keys (Some t) = (after_of c plant keys (length keys) ≡ some (turned_by c plant keys t.at t.row)) × Names keys t
+TurnsTo c plant keys None = after_of c plant keys (length keys) ≡ none

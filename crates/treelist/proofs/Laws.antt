@@ -1,153 +1,88 @@
--- Copies of places (`Copied`), rows of k places in a table, what the functions below `print_file` are given, and what Page's answer says of a run.
+-- What the functions below `print_file` are given, and what Page's answers say of a run.
 use mathlib.Core.Path.{◌∙◌, ◌≡◌, ap, refl, sym}
 use mathlib.Core.Bool.{Bool, false, true}
 use mathlib.Core.Option.{none}
 use mathlib.Core.List.Memᴰ.{head as here}
 use mathlib.Core.List.{List, [], ◌∷◌}
 use Prim.Native.Nat.{◌*◌, ◌+◌, ◌-◌, ◌<◌, ◌^◌, ◌≤◌, min, pred, suc, ℕ}
-use native.Mathlib.Nat.{le_trans, mul-le-mul_right, suc-mul}
-use native.Mathlib.Numerals.{add-one}
+use native.Mathlib.Nat.{suc-mul}
 use native.Mathlib.Omega.{arith}
 use lib.Dec.{leb}
-use lib.ListN.{drop, get_or, length, length-drop, length-set, length-take, set, take}
-use lib.Seq.{take_all, take-suc, take-suc-set}
+use lib.ListN.{drop, length, length-drop, length-take, take}
 use borrow.Author.Tests.{le-leb}
 use Rattle.lists.proofs.Tests.{T_true}
 use Rattle.graph.specs.Graph.{width}
-use Rattle.checks.specs.Checks.{Ended, first_unmet}
+use Rattle.checks.specs.Checks.{answered, first_unmet, refused}
 use Rattle.checks.proofs.Checks.{met_all}
-use Rattle.checks.proofs.Ended.{checked_answered, ended_answered, unmet_parts}
-use Rattle.network_file.specs.File.{Sizes, file_checks, network_of, open_of, sizes_of}
+use Rattle.checks.proofs.Ended.{ended_answered, unmet_parts}
+use Rattle.network_file.specs.File.{Sizes, file_checks, network_of, sizes_of}
 use Rattle.network_file.proofs.Accepted.{accepted}
 use Rattle.fields.specs.Fields.{sizes_in}
 use Rattle.fields.specs.declared.Header.{Header}
-use Rattle.network.specs.Answers.{opened_of}
-use Rattle.network.specs.declared.Opened.{Opened}
-use Rattle.network.specs.declared.Opened.TheVariants as opened
-use Rattle.pages.specs.Pages.{capacity, rest_after}
-use Rattle.pages.proofs.Pages.{rows_end}
-use Rattle.operations.specs.Operations.{FrontTables, Fronted, check, front_call, front_checks, front_over, graph_in, layouts_in, page_call, page_checks, pick_call, some_tree, start_checks}
+use Rattle.pages.specs.Pages.{rest_after}
+use Rattle.operations.specs.Operations.{Paged, check, graph_in, layouts_in, page_call, page_checks, pick_call, some_tree, start_checks}
 use Rattle.operations.proofs.Files.{node_count_lem}
-use Rattle.page.specs.Answers.{paged_of}
-use Rattle.page.specs.declared.PageAnswer.{PageAnswer}
-use Rattle.page.specs.declared.PageAnswer.TheVariants as paged
-use Rattle.fronted.specs.Answers.{fronted_of}
-use Rattle.fronted.specs.declared.FrontAnswer.{FrontAnswer}
-use Rattle.fronted.specs.declared.FrontAnswer.TheVariants as fronted
 use Rattle.treelist.specs.Given.{Given}
 use Rattle.treelist.proofs.Run.{More, Run, all_written, more_left, never_refused}
 
--- the first i places are copied
-pub record Copied (places tree : List ℕ) (i : ℕ) : Type 0 where
-  pub room : i ≤ 31
-  pub few : i ≤ length places
-  pub long : length tree ≡ 31
-  pub holds : take i tree ≡ take i places
-
-pub one_more : {places tree : List ℕ} {i : ℕ} → Copied places tree i → i < length places → i < 31 → Copied places (set tree i (get_or places i 0)) (i + 1)
-one_more {places} {tree} {i} p some room =
-    let long = p.long in
-    record {
-      room = omega arith;
-      few = omega arith;
-      long = simp length-set long;
-      holds = rw (add-one i, take-suc-set tree i (get_or places i 0) (omega arith), take-suc places i 0 some, p.holds);
-    }
-
-pub all_copied : {places tree : List ℕ} {i : ℕ} → Copied places tree i → length places ≤ i → take (length places) tree ≡ places
-all_copied {places} {tree} {i} p all =
-    let end : length places ≡ i = omega (arith, p.few) in
-    ap (λ (k : ℕ). take k tree) end ∙ p.holds ∙ take_all i places all
-
-pub enough_copied : {places tree : List ℕ} {i : ℕ} → Copied places tree i → 31 ≤ i → length places ≤ 31 → take (length places) tree ≡ places
-enough_copied {places} {tree} {i} p full few = all_copied p (omega arith)
-
--- row i of a table of `count` rows of k places
-pub row_within : (i k count size : ℕ) → i < count → count * k ≤ size → i * k + k ≤ size
-row_within i k count size h fits =
-    let up_to : suc i ≤ count = h in
-    le_trans (rw suc-mul at (mul-le-mul_right k up_to)) fits
-
 -- A file that Open takes
 
-pub opened_met : (f : List ℕ) {h : Header} {r : Opened} → r ≡ opened.Header h → opened_of r ≡ open_of f → (first_unmet (file_checks f) ≡ none) × (sizes_in h ≡ sizes_of f)
-unfolding open_of
-opened_met f {h} {r} told e =
-    let (met, same) = checked_answered (file_checks f) (sizes_of f) (sizes_in h) (sym e ∙ ap opened_of told) in
-    (met, sym same)
-
-pub sizes_in_lem : (f : List ℕ) {h : Header} → first_unmet (file_checks f) ≡ none → sizes_in h ≡ sizes_of f → (2 ≤ h.n) × (h.n ≤ 32) × (h.k ≤ 4)
+pub sizes_in_lem : (f : List ℕ) {h : Header} → first_unmet (file_checks f) ≡ none → sizes_in h ≡ sizes_of f → (2 ≤ h.n) × (h.n ≤ 32) × (1 ≤ h.k) × (h.k ≤ 4)
 sizes_in_lem f {h} met sizes =
     let a = accepted f met in
     let n = ap (λ (s : Sizes). s.n) sizes in
     let k = ap (λ (s : Sizes). s.k) sizes in
-    (omega (arith, a.nodes_low), omega (arith, a.nodes_high), omega (arith, a.criteria_high))
+    (omega (arith, a.nodes_low), omega (arith, a.nodes_high), omega (arith, a.criteria_low), omega (arith, a.criteria_high))
 
 -- where Page answers, there is a tree
-pub answered_given : {f : List ℕ} {h : Header} {r : PageAnswer} {c : ℕ} {m : Bool} (page : List ℕ) → first_unmet (file_checks f) ≡ none → sizes_in h ≡ sizes_of f
-    → r ≡ paged.Trees c m → paged_of r ≡ (page_call f page []).outcome → Given f h
+pub answered_given : {f : List ℕ} {h : Header} {a : Paged} (page : List ℕ) → first_unmet (file_checks f) ≡ none → sizes_in h ≡ sizes_of f
+    → answered a ≡ (page_call f page []).outcome → Given f h
 unfolding page_call page_checks
-answered_given {f} {h} {r} {c} {m} page met sizes told e =
+answered_given {f} {h} {a} page met sizes told =
     let behind_file = check 12 (some_tree (layouts_in f)) ∷ check 11 (leb (width (graph_in f)) (length page)) ∷ start_checks (network_of f) [] in
-    let all = (ended_answered (page_checks f page []) _ page _ (record { count = c; more = m }) (sym e ∙ ap paged_of told)).0 in
+    let all = (ended_answered (page_checks f page []) _ page _ a (sym told)).0 in
     let behind = (unmet_parts (file_checks f) behind_file all).1 in
-    let (low, high, criteria) = sizes_in_lem f met sizes in
+    let (low, high, some, criteria) = sizes_in_lem f met sizes in
     record {
       met = met;
       sizes = sizes;
       low = low;
       high = high;
+      some = some;
       criteria = criteria;
       tree = (T_true _).1 ((met_all behind_file).0 behind (check 12 (some_tree (layouts_in f))) (here refl));
     }
 
-module _ {f : List ℕ} {h : Header} (g : Given f h) where
-  -- the width of the trees, as the code has it
-  given_width : h.n - 1 ≡ width (graph_in f)
-  given_width =
-      let n = ap (λ (s : Sizes). s.n) g.sizes in
-      let is : h.n - 1 ≡ pred (length (graph_in f).nodes) = omega (arith, node_count_lem f) in
-      is
-
-  -- the rows that Front fills stand within the cost table
-  pub rows_within : {r : FrontAnswer} {c : ℕ} {whole : Bool} {after : FrontTables} (costs witnesses : List ℕ) → r ≡ fronted.Rows c whole
-      → record { outcome = fronted_of r; buffers = after } ≡ front_call f costs witnesses → length after.costs ≡ length costs → c * h.k ≤ length after.costs
-  unfolding front_call front_over capacity
-  rows_within {r} {c} {whole} {after} costs witnesses told e kept =
-      let outcome = sym (ap (λ (x : Ended Fronted FrontTables). x.outcome) e) ∙ ap fronted_of told in
-      let (met, same) = ended_answered (front_checks f costs witnesses) _ (record { costs = costs; witnesses = witnesses }) _ (record { count = c; whole = whole }) outcome in
-      let count = ap (λ (x : Fronted). x.count) same in
-      let k : h.k ≡ length (network_of f).kinds = ap (λ (s : Sizes). s.k) g.sizes ∙ sym (accepted f g.met).kinds in
-      let fits = rows_end c (length (network_of f).kinds) (length costs) (omega arith) in
-      rw (k, kept) fits
-
--- A call of Page in a run, which answers r and leaves the page as `after`.
-pub record Called (f : List ℕ) (h : Header) (start page after : List ℕ) (total : ℕ) (r : PageAnswer) : Type 0 where
+-- A call of Page in a run, which leaves the page as `after`.
+pub record Called (f : List ℕ) (h : Header) (start page : List ℕ) (total : ℕ) : Type 0 where
   pub given : Given f h
   pub run : Run f start total
   pub room : h.n - 1 ≤ length page
-  pub ends : record { outcome = paged_of r; buffers = after } ≡ page_call f page start
 
-module _ {f : List ℕ} {h : Header} {start page after : List ℕ} {total : ℕ} {r : PageAnswer} (call : Called f h start page after total r) where
+module _ {f : List ℕ} {h : Header} {start page : List ℕ} {total : ℕ} (call : Called f h start page total) where
+  -- the width of the trees, as the code has it
+  given_width : h.n - 1 ≡ width (graph_in f)
+  given_width =
+      let n = ap (λ (s : Sizes). s.n) call.given.sizes in
+      let is : h.n - 1 ≡ pred (length (graph_in f).nodes) = omega (arith, node_count_lem f) in
+      is
+
   fits : width (graph_in f) ≤ length page
-  fits = omega (arith, given_width call.given, call.room)
+  fits = omega (arith, given_width, call.room)
 
-  -- the call's outcome and page, with the answer as it is told
-  ends_as_lem : {a : PageAnswer} → r ≡ a → record { outcome = paged_of a; buffers = after } ≡ page_call f page start
-  ends_as_lem told = ap (λ (r : PageAnswer). record { outcome = paged_of r; buffers = after }) (sym told) ∙ call.ends
+  pub not_refused : {after : List ℕ} {n : ℕ} → record { outcome = refused n; buffers = after } ≡ page_call f page start → ⊥
+  not_refused {after} {n} = never_refused f call.given.met call.given.tree start page total call.run fits after n
 
-  pub not_refused : {number : ℕ} → r ≡ paged.Refused number → ⊥
-  not_refused {number} told = never_refused f call.given.met call.given.tree start page total call.run fits after number (ends_as_lem told)
+  module _ {after : List ℕ} {c : ℕ} {m : Bool} (ends : record { outcome = answered (record { count = c; more = m }); buffers = after } ≡ page_call f page start) where
+    -- the same, with the mark as it is told
+    marked : {t : Bool} → m ≡ t → record { outcome = answered (record { count = c; more = t }); buffers = after } ≡ page_call f page start
+    marked told = ap (λ (b : Bool). record { outcome = answered (record { count = c; more = b }); buffers = after }) (sym told) ∙ ends
 
-  pub last_page : {c : ℕ} {m : Bool} → r ≡ paged.Trees c m → m ≡ false → min (total + c) (2 ^ 64 - 1) ≡ min (length (layouts_in f)) (2 ^ 64 - 1)
-  last_page {c} {m} told none_left =
-      all_written f call.given.met call.given.tree start page total call.run fits after c
-      (ends_as_lem (told ∙ ap (paged.Trees c) none_left))
+    pub last_page : m ≡ false → min (total + c) (2 ^ 64 - 1) ≡ min (length (layouts_in f)) (2 ^ 64 - 1)
+    last_page none_left = all_written f call.given.met call.given.tree start page total call.run fits after c (marked none_left)
 
-  pub page_left : {c : ℕ} {m : Bool} → r ≡ paged.Trees c m → m ≡ true → More f start after (h.n - 1) total c
-  page_left {c} {m} told some_left =
-      rw (given_width call.given) (more_left f call.given.met call.given.tree start page total call.run fits after c
-      (ends_as_lem (told ∙ ap (paged.Trees c) some_left)))
+    pub page_left : m ≡ true → More f start after (h.n - 1) total c
+    page_left some_left = rw given_width (more_left f call.given.met call.given.tree start page total call.run fits after c (marked some_left))
 
 -- Pick's part, where the tree ends within the page
 picked : (n t : ℕ) (page : List ℕ) → 2 ≤ n → n ≤ 32 → t * (n - 1) + (n - 1) ≤ length page → pick_call n page t ≡ take (n - 1) (drop (t * (n - 1)) page)

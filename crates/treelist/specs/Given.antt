@@ -13,5 +13,6 @@ pub record Given (f : List ℕ) (h : Header) : Type 0 where
   pub sizes : sizes_in h ≡ sizes_of f
   pub low : 2 ≤ h.n
   pub high : h.n ≤ 32
+  pub some : 1 ≤ h.k
   pub criteria : h.k ≤ 4
   pub tree : T (some_tree (layouts_in f))

@@ -34,7 +34,7 @@ fn open(what: &[u8], many: u64, file: &[u8]) {
     let mut at = printout::text(&mut line, 0, what);
     at = printout::number(&mut line, at, many);
     at = came(&mut line, at, code);
-    at = printout::costs(&mut line, at, &answer);
+    at = printout::numbers(&mut line, at, &answer);
     write(&mut line, at);
 }
 
@@ -42,9 +42,9 @@ fn open(what: &[u8], many: u64, file: &[u8]) {
 fn tell(what: &[u8], rows: &[u16], code: u32, answer: &[u32]) {
     let mut line = [0; 512];
     let mut at = printout::text(&mut line, 0, what);
-    at = printout::rows(&mut line, at, rows);
+    at = printout::numbers(&mut line, at, rows);
     at = came(&mut line, at, code);
-    at = printout::costs(&mut line, at, answer);
+    at = printout::numbers(&mut line, at, answer);
     write(&mut line, at);
 }
 
@@ -60,9 +60,9 @@ fn order(file: &[u8], rows: &[u16]) {
     let code = planner_order(file, rows, &mut path);
     let mut line = [0; 512];
     let mut at = printout::text(&mut line, 0, b"order");
-    at = printout::rows(&mut line, at, rows);
+    at = printout::numbers(&mut line, at, rows);
     at = came(&mut line, at, code);
-    at = printout::rows(&mut line, at, &path);
+    at = printout::numbers(&mut line, at, &path);
     write(&mut line, at);
 }
 
@@ -157,7 +157,7 @@ fn pick(file: &[u8]) {
     page(file, &mut places, &[]);
     let mut line = [0; 512];
     let at = printout::text(&mut line, 0, b"pick");
-    let end = printout::rows(&mut line, at, pick::pick(3, &places, 1));
+    let end = printout::numbers(&mut line, at, pick::pick(3, &places, 1));
     write(&mut line, end);
 }
 

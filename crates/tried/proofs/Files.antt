@@ -8,7 +8,7 @@ use lib.ListN.{get_or-map, get_or, length-map}
 use Rattle.lists.specs.Lists.{all, both, has_all}
 use Rattle.lists.proofs.Members.{filter_same}
 use Rattle.graph.specs.Graph.{Graph, row_numbers}
-use Rattle.checks.specs.Checks.{ended}
+use Rattle.checks.specs.Checks.{checked}
 use Rattle.costs.specs.Layouts.{barred_at, is_must, keeps_states, must_at}
 use Rattle.costs.specs.Network.{Row, graph_of, no_row}
 use Rattle.network_file.specs.File.{network_of, sizes_of}
@@ -18,7 +18,7 @@ use Rattle.chart.proofs.Entered.{bare}
 use Rattle.chart.proofs.Files.{file_chartable, file_graph, file_limit, file_nodes, file_plant, file_rows, file_width}
 use Rattle.chart.proofs.Made.{Chartable}
 use Rattle.operations.specs.Operations.{check, drawn_checks, tree_checks}
-use Rattle.tried.specs.Answers.{minimal_steps, no_steps}
+use Rattle.tried.specs.Answers.{minimal_steps}
 use Rattle.tried.specs.Tried.{tried_of}
 use Rattle.tried.proofs.Trees.{Drawable, network_in, plain_in, tried_checks_lem}
 use Rattle.words.specs.Words.{up_to}
@@ -59,7 +59,7 @@ module _ (f : List ℕ) (a : Accepted f) (c : List ℕ) (empty : Blank c) where
       (λ r i. ap (λ (row : Row). is_must row.state) (row_at_lem r)) in
       rw (file_rows f a c empty) (simp (row_at_lem, map-map) (ap (λ (l : List ℕ). both (has_all l rows) (all (λ r. not (barred_at (network_of f) r)) rows)) musts))
 
-  pub tried_file : (rows : List ℕ) → tried_of (file_chart_on f c) rows ≡ ended (drawn_checks (network_of f) rows) tt no_steps (minimal_steps (graph_of (network_of f)) rows)
+  pub tried_file : (rows : List ℕ) → tried_of (file_chart_on f c) rows ≡ checked (drawn_checks (network_of f) rows) (minimal_steps (graph_of (network_of f)) rows)
   unfolding drawn_checks
   tried_file rows = tried_checks_lem chart drawable rows
-      ∙ ap₂ (λ (g : Graph) (kept : Bool). ended (tree_checks g rows ++ (check 15 kept ∷ [])) tt no_steps (minimal_steps g rows)) plain (states rows)
+      ∙ ap₂ (λ (g : Graph) (kept : Bool). checked (tree_checks g rows ++ (check 15 kept ∷ [])) (minimal_steps g rows)) plain (states rows)

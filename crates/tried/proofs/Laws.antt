@@ -1,5 +1,4 @@
--- Laws for the code: the marks of one row more, one turn of the loop that enters the rows, what a refusal and an answer's number say, and what trying rows comes to,
--- check by check.
+-- Laws for the code: the marks of one row more, one turn of the loop that enters the rows, and the states row by row.
 use mathlib.Core.Path.{◌∙◌, ◌≡◌, ap, refl, sym}
 use mathlib.Core.Logic.{⊎_elim}
 use mathlib.Core.Bool.{Bool, false, true}
@@ -8,25 +7,18 @@ use Prim.Native.Nat.{◌+◌, ◌-◌, ◌<◌, ◌≤◌, suc, ℕ}
 use native.Mathlib.Decide.{ℕ_discrete}
 use native.Mathlib.Numerals.{add-one}
 use native.Mathlib.Omega.{arith}
-use lib.Dec.{ltb}
 use lib.ListN.{get_or, length, length-map, length-set, replicate, set, take}
 use lib.Seq.{ext_get_or, get_or-set_other, get_or-set_same, take-suc}
-use borrow.Author.Tests.{eq-eqb, ne_eqb}
 use Rattle.lists.specs.Lists.{all, any, member, range}
 use Rattle.lists.proofs.Members.{member_in, member_out, snoc_new, snoc_old, snoc_out}
 use Rattle.lists.proofs.Ranges.{all_range_start, get_or_map_range, range_length}
 use Rattle.lists.proofs.Tests.{T-same, T_true}
-use Rattle.graph.specs.Paths.{Key}
-use Rattle.checks.specs.Checks.{Ended, answered, checked, ended, first_unmet, refused}
 use Rattle.costs.specs.Network.{Row, no_row}
 use Rattle.fields.specs.Fields.{row_with}
 use Rattle.fields.specs.declared.Row as code
-use Rattle.paths.specs.Path.{keys_of, plant_of}
 use Rattle.chart.specs.Chart.{begun_by, count_in, entered_by, entered_down, limit_in, nodes_in, plant_in, rows_in, width_in}
-use Rattle.tried.specs.Answers.{PathSteps, drawn_of, no_steps}
 use Rattle.tried.specs.Only.{marks_of, only_on, only_row, only_rows}
-use Rattle.tried.specs.Tried.{drawn_keys, keeps, kept_by, tried_checks, tried_of}
-use Rattle.tried.specs.declared.DrawnAnswer.{DrawnAnswer}
+use Rattle.tried.specs.Tried.{keeps, kept_by}
 
 -- the marks of no row, and of one row more
 
@@ -104,45 +96,3 @@ kept_at c drawn r = keeps (get_or (rows_in c) r no_row).state (get_or drawn r fa
 pub kept_start : (c : List ℕ) (drawn : List Bool) (count : ℕ) → count ≡ count_in c → kept_by c drawn ≡ all (kept_at c drawn) (range 0 (count - 0))
 unfolding kept_by kept_at
 kept_start c drawn count e = ap (λ (m : ℕ). all (kept_at c drawn) (range 0 m)) (sym e) ∙ all_range_start (kept_at c drawn) count
-
--- check after check
-
-pub refusal : (d : DrawnAnswer) (n : ℕ) → (d.number ≡ n) × (plant_of d.path ≡ 0) × (keys_of d.path ≡ []) → ¬ (n ≡ 0)
-    → drawn_of d ≡ record { outcome = refused n; buffers = no_steps }
-refusal d n e z = rw (e.0, e.1, e.2, ne_eqb n 0 z)
-
--- what an answer's number says of the call that it stands for
-module _ (d : DrawnAnswer) {call : Ended (Unit {0}) PathSteps} (asked : drawn_of d ≡ call) where
-  pub outcome_refused : ¬ (d.number ≡ 0) → call.outcome ≡ refused d.number
-  outcome_refused n = rw (← asked, ne_eqb d.number 0 n)
-
-  pub outcome_answered : d.number ≡ 0 → call.outcome ≡ answered tt
-  outcome_answered z = rw (← asked, z)
-
-module _ (c rows : List ℕ) where
-  abbrev keys : List Key
-  keys = drawn_keys c (marks_of rows)
-
-  pub tried_8 : ¬ (length rows ≡ width_in c) → tried_of c rows ≡ record { outcome = refused 8; buffers = no_steps }
-  unfolding tried_of tried_checks ended checked first_unmet
-  tried_8 n = rw (ne_eqb _ _ n)
-
-  module _ (size : length rows ≡ width_in c) where
-    pub tried_9 : all (λ r. ltb r (count_in c)) rows ≡ false → tried_of c rows ≡ record { outcome = refused 9; buffers = no_steps }
-    unfolding tried_of tried_checks ended checked first_unmet
-    tried_9 n = rw (eq-eqb _ _ size, n)
-
-    module _ (known : all (λ r. ltb r (count_in c)) rows ≡ true) where
-      pub tried_10 : ¬ (length (drawn_keys c (marks_of rows)) ≡ width_in c) → tried_of c rows ≡ record { outcome = refused 10; buffers = no_steps }
-      unfolding tried_of tried_checks ended checked first_unmet
-      tried_10 n = rw (eq-eqb _ _ size, known, ne_eqb _ _ n)
-
-      module _ (whole : length (drawn_keys c (marks_of rows)) ≡ width_in c) where
-        pub tried_15 : kept_by c (marks_of rows) ≡ false → tried_of c rows ≡ record { outcome = refused 15; buffers = no_steps }
-        unfolding tried_of tried_checks ended checked first_unmet
-        tried_15 n = rw (eq-eqb _ _ size, known, eq-eqb _ _ whole, n)
-
-        pub tried_met : kept_by c (marks_of rows) ≡ true
-            → tried_of c rows ≡ record { outcome = answered tt; buffers = record { plant = plant_in c; keys = drawn_keys c (marks_of rows) } }
-        unfolding tried_of tried_checks ended checked first_unmet
-        tried_met e = rw (eq-eqb _ _ size, known, eq-eqb _ _ whole, e)

@@ -20,7 +20,7 @@ use Rattle.graph.specs.Paths.{Key, and_then, path_of, steps}
 use Rattle.graph.proofs.Growth.{start}
 use Rattle.graph.proofs.Minimal.{WellFormed}
 use Rattle.graph.proofs.Walk.{Leasts}
-use Rattle.checks.specs.Checks.{Ended, answered, checked, ended, first_unmet}
+use Rattle.checks.specs.Checks.{Outcome, answered, checked, first_unmet}
 use Rattle.costs.specs.Layouts.{is_barred, is_must, keeps_states, must_at, must_end, must_rows, open_end}
 use Rattle.costs.specs.Network.{Network, Row, State, graph_of, no_row}
 use Rattle.states.specs.States.{must_row, musts_of}
@@ -36,7 +36,7 @@ use Rattle.grow.specs.Musts.{grow_with}
 use Rattle.grow.proofs.Grow.{fresh_ready}
 use Rattle.grow.proofs.Musts.{Grown, free_grown, grow_accepts}
 use Rattle.operations.specs.Operations.{check, tree_checks}
-use Rattle.tried.specs.Answers.{PathSteps, keys_in, minimal_steps, no_steps}
+use Rattle.tried.specs.Answers.{PathSteps, keys_in, minimal_steps}
 use Rattle.tried.specs.Only.{marks_of, only_on, only_row, only_rows}
 use Rattle.tried.specs.Tried.{drawn_keys, keeps, kept_by, tried_checks, tried_of}
 use Rattle.tried.proofs.Laws.{marks_at, only_at, only_length}
@@ -213,17 +213,17 @@ module _ (c : List ℕ) (able : Drawable c) where
 -- Checks
 
 -- a call by what the checks come to
-abbrev call : Bool → Bool → Bool → Bool → PathSteps → Ended (Unit {0}) PathSteps
-call b8 b9 b10 b15 steps = ended (check 8 b8 ∷ check 9 b9 ∷ check 10 b10 ∷ check 15 b15 ∷ []) tt no_steps steps
+abbrev call : Bool → Bool → Bool → Bool → PathSteps → Outcome PathSteps
+call b8 b9 b10 b15 steps = checked (check 8 b8 ∷ check 9 b9 ∷ check 10 b10 ∷ check 15 b15 ∷ []) steps
 
 module _ {b8 c8 b9 c9 b10 c10 b15 c15 : Bool} {a b : PathSteps} where
   -- two calls agree if checks 8 and 9 do, and once those are met the others
   agree : b8 ≡ c8 → b9 ≡ c9 → (T b8 → T b9 → (b10 ≡ c10) × (b15 ≡ c15) × (T c10 → a ≡ b)) → call b8 b9 b10 b15 a ≡ call c8 c9 c10 c15 b
-  unfolding ended checked first_unmet
+  unfolding checked first_unmet
   agree e8 e9 h = by b8 b9 h ∙ ap₂ (λ x y. call x y c10 c15 b) e8 e9
     where
       last : (t u : Bool) → (T t → a ≡ b) → call true true t u a ≡ call true true t u b
-      last true true h = ap (λ (path : PathSteps). record { outcome = answered tt; buffers = path }) (h tt)
+      last true true h = ap answered (h tt)
       last true false h = refl
       last false u h = refl
 
@@ -233,7 +233,7 @@ module _ {b8 c8 b9 c9 b10 c10 b15 c15 : Bool} {a b : PathSteps} where
       by false b9 h = refl
 
 pub tried_checks_lem : (c : List ℕ) → Drawable c → (rows : List ℕ)
-    → tried_of c rows ≡ ended (tree_checks (plain_in c) rows ++ (check 15 (keeps_states (network_in c) rows) ∷ [])) tt no_steps (minimal_steps (plain_in c) rows)
+    → tried_of c rows ≡ checked (tree_checks (plain_in c) rows ++ (check 15 (keeps_states (network_in c) rows) ∷ [])) (minimal_steps (plain_in c) rows)
 unfolding tried_of tried_checks tree_checks
 tried_checks_lem c able rows =
     let g = plain_in c in

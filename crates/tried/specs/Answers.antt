@@ -1,13 +1,13 @@
--- What an answer to drawn rows says: its outcome, and the path that it carries.
+-- What an answer to drawn rows says: the path with its steps, or the number of a refusal.
 use Rattle.std.proofs.Math.Option.{Option, none, some}
-use Rattle.std.specs.Prelude.{List, [], ℕ, eqb}
-use Rattle.lists.specs.Lists.{pick}
+use Rattle.std.specs.Prelude.{List, Result, [], ℕ}
 use Rattle.graph.specs.Graph.{Graph}
 use Rattle.graph.specs.Paths.{Key, and_then, path_of, steps}
-use Rattle.checks.specs.Checks.{Ended, answered, refused}
+use Rattle.checks.specs.Checks.{Outcome}
+use Rattle.refusals.specs.Refusals.{outcome_of}
+use Rattle.refusals.specs.declared.Refusal.{Refusal}
 use Rattle.paths.specs.Path.{keys_of, plant_of}
 use Rattle.paths.specs.declared.Path.{Path}
-use Rattle.tried.specs.declared.DrawnAnswer.{DrawnAnswer}
 
 -- all that a path stands for
 pub record PathSteps : Type 0 where
@@ -17,13 +17,9 @@ pub record PathSteps : Type 0 where
 abbrev pub steps_in : Path → PathSteps
 steps_in p = record { plant = plant_of p; keys = keys_of p }
 
--- the path of a refusal
-abbrev pub no_steps : PathSteps
-no_steps = record { plant = 0; keys = [] }
-
--- the code's answer, as that of a call which is lent a path with no step: number 0 stands for an answer
-abbrev pub drawn_of : DrawnAnswer → Ended (Unit {0}) PathSteps
-drawn_of d = record { outcome = pick (eqb d.number 0) (answered tt) (refused d.number); buffers = steps_in d.path }
+-- the code's answer: a path, by its steps
+abbrev pub drawn_of : Result Path Refusal → Outcome PathSteps
+drawn_of = outcome_of steps_in
 
 -- the steps that were found; asked only where there are some
 abbrev pub keys_in : Option (List Key) → List Key

@@ -3,7 +3,7 @@
 use Rattle.std.specs.Prelude.{Bool, false, not, List, [], ◌∷◌, ℕ, eqb, ltb, get_or, length, replicate}
 use Rattle.lists.specs.Lists.{all, pick, range}
 use Rattle.graph.specs.Paths.{Key}
-use Rattle.checks.specs.Checks.{Check, Ended, ended}
+use Rattle.checks.specs.Checks.{Check, Outcome, checked}
 use Rattle.costs.specs.Layouts.{is_barred, is_must}
 use Rattle.costs.specs.Network.{State, no_row}
 use Rattle.paths.specs.Path.{entered_by}
@@ -11,7 +11,7 @@ use Rattle.chart.specs.Chart.{count_in, nodes_in, plant_in, rows_in, width_in}
 use Rattle.grow.specs.Grow.{fresh_after}
 use Rattle.grow.specs.Musts.{grow_with}
 use Rattle.operations.specs.Operations.{check}
-use Rattle.tried.specs.Answers.{PathSteps, no_steps}
+use Rattle.tried.specs.Answers.{PathSteps}
 use Rattle.tried.specs.Only.{marks_of, only_on}
 
 -- the steps of the path that first steps grow over the drawn rows alone, from the plant on
@@ -33,5 +33,5 @@ tried_checks c rows =
     ∷ check 15 (kept_by c (marks_of rows))
     ∷ []
 
-unfoldable pub tried_of : List ℕ → List ℕ → Ended (Unit {0}) PathSteps
-tried_of c rows = ended (tried_checks c rows) tt no_steps (record { plant = plant_in c; keys = drawn_keys c (marks_of rows) })
+unfoldable pub tried_of : List ℕ → List ℕ → Outcome PathSteps
+tried_of c rows = checked (tried_checks c rows) (record { plant = plant_in c; keys = drawn_keys c (marks_of rows) })

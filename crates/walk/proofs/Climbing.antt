@@ -17,7 +17,7 @@ use Rattle.lists.proofs.Distinct.{filled}
 use Rattle.lists.proofs.Members.{◌⊆◌}
 use Rattle.lists.proofs.Tests.{T-both, T_true}
 use Rattle.graph.specs.Graph.{Graph, row_numbers}
-use Rattle.graph.specs.Paths.{Key, follows}
+use Rattle.graph.specs.Paths.{Key}
 use Rattle.graph.proofs.Growth.{Completion, Legal, State, after, rows_of, start}
 use Rattle.graph.proofs.Keys.{follows_out}
 use Rattle.graph.proofs.Minimal.{row_known, row_numbers_in, sound_start}
@@ -35,22 +35,6 @@ use Rattle.paths.proofs.Laws as paths
 use Rattle.grow.specs.Grow.{fresh_after}
 use Rattle.grow.proofs.Grow.{entered_step, fresh_ready, ready_after}
 use Rattle.walk.specs.Climbing.{climbs_from, climbs_in, key_at, legal_by}
-
--- ONE STEP
-
-module _ (c : List ℕ) (fresh place node pivot : ℕ) (k : Key) where
-  pub legal_entered : has fresh k.node ≡ false → false ≡ legal_by c fresh place node pivot k
-  unfolding legal_by
-  legal_entered n = rw n
-
-  module _ (unentered : has fresh k.node ≡ true) where
-    pub legal_apart : joins_at (firsts_in false c) (seconds_in false c) k.row pivot k.node ≡ false → false ≡ legal_by c fresh place node pivot k
-    unfolding legal_by
-    legal_apart n = rw (unentered, n)
-
-    pub legal_joined : joins_at (firsts_in false c) (seconds_in false c) k.row pivot k.node ≡ true → follows (key_at place node) k ≡ legal_by c fresh place node pivot k
-    unfolding legal_by
-    legal_joined t = rw (unentered, t)
 
 -- ALL STEPS
 

@@ -4,6 +4,9 @@ use mathlib.Core.Path.{◌≡◌, refl}
 use mathlib.Core.Bool.{Bool, false, true}
 use mathlib.Core.Option.{Option, none, some}
 use mathlib.Core.List.{List, map}
+use Rattle.std.specs.declared.option.Option as code
+use Rattle.std.specs.Option.{is_some, unwrap_or}
+use Rattle.std.specs.Prelude.{None, Some}
 use Prim.Native.Nat.{◌-◌, ◌<◌, ◌≤◌, min, suc, zero, ℕ}
 use native.Mathlib.Omega.{arith}
 use lib.Bits.{bit_or}
@@ -19,8 +22,8 @@ use Rattle.search.specs.Search.{or_else}
 use Rattle.paths.specs.Path.{entered_by, keys_of, no_key}
 use Rattle.grow.specs.Grow.{fresh_after, open_past}
 use Rattle.grow.specs.Musts.{first_of, grow_with, musts_met}
-use Rattle.walk.specs.Walk.{after_from, after_of, beside_of, first_in, next_of, on_of, skip_of}
-use Rattle.walk.specs.declared.Next.{Next}
+use Rattle.paths.specs.declared.Path.{Path}
+use Rattle.walk.specs.Walk.{after_from, after_of, beside_of, first_in, next_of, on_of, path_or, skip_of}
 
 module _ (c : List ℕ) (plant : ℕ) where
   -- One step
@@ -67,14 +70,18 @@ module _ (c : List ℕ) (plant : ℕ) where
   after_over (suc i) fresh keys h = absurd (omega arith)
 
 -- what the code answers, if it has an answer, and if it has none
-pub next_keys : (n : Next) → n.some ≡ true → some (keys_of n.path) ≡ next_of n
-next_keys n t = rw t
+pub next_some : (next : code.Option Path) (o : Option (List Key)) → is_some next ≡ true → next_of next ≡ or_else (next_of next) o
+next_some (Some path) o t = refl
+next_some None o t = cc
 
-pub next_some : (n : Next) (o : Option (List Key)) → n.some ≡ true → next_of n ≡ or_else (next_of n) o
-next_some n o t = rw t
+pub next_none : (next : code.Option Path) (o : Option (List Key)) → is_some next ≡ false → or_else (next_of next) o ≡ o
+next_none (Some path) o t = cc
+next_none None o t = refl
 
-pub next_none : (n : Next) (o : Option (List Key)) → n.some ≡ false → or_else (next_of n) o ≡ o
-next_none n o t = rw t
+-- the path that was found, or else the one that was given
+pub next_or : (next : code.Option Path) (path : Path) → keys_of (unwrap_or next path) ≡ path_or (keys_of path) (next_of next)
+next_or (Some found) path = refl
+next_or None path = refl
 
 -- The first path, where it is too short, and where the must rows are asked for
 module _ (c : List ℕ) (keys : List Key) (grown : keys ≡ first_of c) where

@@ -1,7 +1,8 @@
 -- The walk over the paths that have all must rows, as a computation: the first such path, and the next behind all that begin alike. A step by a must row is not skipped.
 -- `c` is a chart, `plant` the plant of the path that is given.
+use Rattle.std.specs.Prelude.{None, Some, List, map, ◌-◌, ◌%◌, min, suc, zero, ℕ, eqb, get_or, length, take}
+use Rattle.std.specs.declared.option.Option as code
 use Rattle.std.proofs.Math.Option.{Option, none, some}
-use Rattle.std.specs.Prelude.{List, map, ◌-◌, ◌%◌, min, suc, zero, ℕ, eqb, get_or, length, take}
 use Rattle.std.proofs.Math.Bool.{true}
 use Rattle.std.specs.Int.Bits.{bit_or}
 use Rattle.lists.specs.Lists.{both, pick}
@@ -13,11 +14,12 @@ use Rattle.search.specs.Search.{or_else}
 use Rattle.paths.specs.Path.{entered_by, extended_by, keys_of, no_key}
 use Rattle.grow.specs.Grow.{fresh_after, open_past}
 use Rattle.grow.specs.Musts.{first_of, grow_with, musts_met}
-use Rattle.walk.specs.declared.Next.{Next}
+use Rattle.paths.specs.declared.Path.{Path}
 
 -- what the code answers for a path that may be missing
-abbrev pub next_of : Next → Option (List Key)
-next_of n = pick n.some (some (keys_of n.path)) none
+abbrev pub next_of : code.Option Path → Option (List Key)
+next_of (Some path) = some (keys_of path)
+next_of None = none
 
 -- the steps of the path that was found, or else those of the path that was given
 abbrev pub path_or : List Key → Option (List Key) → List Key

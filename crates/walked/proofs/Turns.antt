@@ -1,7 +1,7 @@
 -- The turns of a pass (`Turn`): it begins at the first path (`turn_start`), goes on to the next (`turn_next`), and ends behind the last with the next rows
 -- of the front in the scratch table (`turn_last`).
 use mathlib.Core.Path.{◌∙◌, ◌≡◌, ap, refl, subst, sym}
-use mathlib.Core.Bool.{false, true}
+use mathlib.Core.Bool.{false}
 use mathlib.Core.Option.{none, some}
 use mathlib.Core.List.{List, []}
 use Prim.Native.Nat.{◌+◌, ◌<◌, ◌≤◌, ℕ}
@@ -24,8 +24,7 @@ use Rattle.operations.specs.Operations.{layouts_in}
 use Rattle.paths.specs.Path.{keys_of, plant_of, rows_in}
 use Rattle.paths.specs.declared.Path.{Path}
 use Rattle.grow.specs.Musts.{first_of}
-use Rattle.walk.specs.Walk.{after_of, next_of}
-use Rattle.walk.specs.declared.Next.{Next}
+use Rattle.walk.specs.Walk.{after_of}
 use Rattle.walk.proofs.Behind.{after_beyond, after_in, first_path_lem, last_path, next_path}
 use Rattle.states.proofs.Full.{Full}
 use Rattle.states.proofs.With.{with_part_lem}
@@ -92,7 +91,7 @@ module _ {f c : List ℕ} (l : Laid f c) where
         {s : Scratch} {path : Path} {costs witnesses : List ℕ} (turn : Turn f c rows n costs₀ witnesses₀ s path costs witnesses)
         {s' : Scratch} {costs' witnesses' : List ℕ}
         (offer : record { scratch = s'; costs = costs'; witnesses = witnesses' } ≡ offer_of known n costs witnesses rows s (cost_of (network_of f) (rows_in path)) (rows_in path))
-        (len : ℕ) (whole_path : len ≡ length (rows_in path)) (next : Next) (found : next_of next ≡ after_of c (plant_of path) (keys_of path) len) where
+        (len : ℕ) (whole_path : len ≡ length (rows_in path)) where
       abbrev key : List ℕ → List ℕ
       key = cost_of (network_of f)
 
@@ -118,36 +117,33 @@ module _ {f c : List ℕ} (l : Laid f c) where
           (rw (turn.same_costs, ← add-one rows) room.costs_fit) (rw (turn.same_witnesses, ← add-one rows) room.trees_fit) here size known n (known_trees (network_of f) L n) rows_known.fits
           (rows_known.vectors ∙ sym (known_vectors (network_of f) L n)))
 
-      found_is : next_of next ≡ after_in l.right (keys_of path) len
-      found_is = found ∙ (rw turn.planted)
+      module _ (next : Path) (found : some (keys_of next) ≡ after_of c (plant_of path) (keys_of path) len) where
+        found_next : after_in l.right (keys_of path) len ≡ some (keys_of next)
+        found_next = sym (found ∙ (rw turn.planted))
 
-      module _ (some_next : next.some ≡ true) where
-        found_next : after_in l.right (keys_of path) len ≡ some (keys_of next.path)
-        found_next = sym found_is ∙ (rw some_next)
-
-        is_next : NextIn g L here (rows_of (keys_of next.path))
+        is_next : NextIn g L here (rows_of (keys_of next))
         is_next =
-            subst (λ (x : List (List ℕ)). NextIn g x here (rows_of (keys_of next.path))) l.list
-            (next_path l.right (keys_of path) turn.whole len all (keys_of next.path) found_next)
+            subst (λ (x : List (List ℕ)). NextIn g x here (rows_of (keys_of next))) l.list
+            (next_path l.right (keys_of path) turn.whole len all (keys_of next) found_next)
 
-        pub turn_next : plant_of next.path ≡ plant_of path → length costs' ≡ length costs → length witnesses' ≡ length witnesses
-            → Turn f c rows n costs₀ witnesses₀ s' next.path costs' witnesses'
+        pub turn_next : plant_of next ≡ plant_of path → length costs' ≡ length costs → length witnesses' ≡ length witnesses
+            → Turn f c rows n costs₀ witnesses₀ s' next costs' witnesses'
         turn_next same kept_costs kept_witnesses = record {
           table = table';
-          whole = (after_beyond l.right (keys_of path) turn.whole len (keys_of next.path) found_next).full;
+          whole = (after_beyond l.right (keys_of path) turn.whole len (keys_of next) found_next).full;
           planted = same ∙ turn.planted;
-          stands = stands_next (network_of f) n rows part here turn.table turn.stands (rows_of (keys_of next.path)) is_next;
+          stands = stands_next (network_of f) n rows part here turn.table turn.stands (rows_of (keys_of next)) is_next;
           held = held';
           same_costs = kept_costs ∙ turn.same_costs;
           same_witnesses = kept_witnesses ∙ turn.same_witnesses;
         }
 
-        pub turn_less : left (graph_in c) (layouts_in f) (rows_in next.path) < left (graph_in c) (layouts_in f) (rows_in path)
-        turn_less = rw (← rows_map (keys_of path), ← rows_map (keys_of next.path)) (left_less part turn.stands.place here (rows_of (keys_of next.path)) turn.stands.at is_next)
+        pub turn_less : left (graph_in c) (layouts_in f) (rows_in next) < left (graph_in c) (layouts_in f) (rows_in path)
+        turn_less = rw (← rows_map (keys_of path), ← rows_map (keys_of next)) (left_less part turn.stands.place here (rows_of (keys_of next)) turn.stands.at is_next)
 
-      pub turn_last : rows ≡ scratch_rows → next.some ≡ false → Passed f c n s' costs' witnesses'
-      turn_last e none_next =
-          let over = subst (λ (x : List (List ℕ)). LastIn g x here) l.list (last_path l.right (keys_of path) turn.whole len all (sym found_is ∙ (rw none_next))) in
+      pub turn_last : rows ≡ scratch_rows → none ≡ after_of c (plant_of path) (keys_of path) len → Passed f c n s' costs' witnesses'
+      turn_last e found =
+          let over = subst (λ (x : List (List ℕ)). LastIn g x here) l.list (last_path l.right (keys_of path) turn.whole len all (sym (found ∙ (rw turn.planted)))) in
           let end = pass_ends (network_of f) L n rows rows_known.few (omega arith) table' (stands_last (network_of f) n rows part here turn.table turn.stands over) in
           let count = held_count held' in
           record {

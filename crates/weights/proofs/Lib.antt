@@ -1,2 +1,1 @@
-pub mod Sums
 pub mod Stores

@@ -1,71 +1,65 @@
--- `add_to` by its tests, as the code makes them (`far_first`, `far_second`, `short_dropped`, `short_merged`, `here`), and what it leaves: the arrays with the link added (`added`).
-use mathlib.Core.Path.{◌∙◌, ◌≡◌, ap, subst, sym}
+-- A weight stored is `put` (`matrix_set`), and `add_to` by its test, as the code makes it (`kept_first`, `kept_second`, `here`), and what it leaves: the links with one added (`added`).
+use mathlib.Core.Path.{◌∙◌, ◌≡◌, ap, sym}
 use mathlib.Core.Logic.{inl, inr}
-use mathlib.Core.Bool.{true}
 use mathlib.Core.List.{List}
 use Prim.Native.Nat.{◌*◌, ◌+◌, ◌<◌, ◌≤◌, ℕ}
+use native.Mathlib.Decide.{ℕ_discrete}
 use native.Mathlib.Omega.{arith}
 use lib.Dec.{ltb, ltb→lt}
-use lib.ListN.{get_or, length, length-set, set}
-use borrow.Author.Tests.{le-leb, le-ltb, lt-leb, lt-ltb}
+use lib.ListN.{get_or-replicate, length, replicate, set}
+use lib.Seq.{get_or-set_other, get_or-set_same}
+use borrow.Author.Tests.{le-ltb, lt-ltb}
 use Rattle.lists.proofs.Tests.{T_false, T_true, decide, not_ltb→le}
-use Rattle.counts.specs.Counting.{Weight, beside, weigh}
-use Rattle.counts.specs.Matrix.{Agree, held, limit, matrix_of, put}
-use Rattle.counts.proofs.Arrays.{matrix_set}
-use Rattle.weights.specs.Weights.{Added, Arrays, add_to, beside_at, place_of_pair}
+use Rattle.counts.specs.Counting as counting
+use Rattle.counts.specs.Counting.{beside}
+use Rattle.counts.specs.Matrix.{Agree, add_held, held, limit, put}
+use Rattle.counts.specs.States.{empty}
+use Rattle.counts.proofs.Matrix.{put_column, put_row, put_same}
+use Rattle.weights.specs.Weights.{add_to, matrix_in, place_of_pair, weight_at, weight_in}
+use Rattle.weights.specs.declared.Weight.{Weight}
 
-near : (x : ℕ) → x ≤ 31 → ltb x 32 ≡ true
-near x i = lt-ltb x 32 (omega arith)
+-- A STORE
+row_of : (a b i j : ℕ) → b < 32 → j < 32 → i * 32 + j ≡ a * 32 + b → i ≡ a
+row_of a b i j l m e = omega arith
 
-module _ (ds ms : List ℕ) (x y : ℕ) (p : Weight) where
-  abbrev kept : Arrays
-  kept = record { dropped = ds; merged = ms }
+pub matrix_set : (ws : List Weight) (a b : ℕ) (p : Weight) (i j : ℕ) → a * 32 + b < length ws → b < 32 → j < 32
+    → matrix_in (set ws (a * 32 + b) p) i j ≡ put (matrix_in ws) a b (weight_in p) i j
+matrix_set ws a b p i j l h k = elim (ℕ_discrete i a) [
+  | no n ↦ ap weight_in (get_or-set_other ws (a * 32 + b) (i * 32 + j) p _ (λ e. n (row_of a b i j h k e))) ∙ sym (put_row (matrix_in ws) a b (weight_in p) i j n)
+  | yes e ↦ elim (ℕ_discrete j b) [
+    | no n ↦ ap weight_in (get_or-set_other ws (a * 32 + b) (i * 32 + j) p _ (λ q. n (omega arith))) ∙ sym (put_column (matrix_in ws) a b (weight_in p) i j n)
+    | yes q ↦ rw (e, q) (ap weight_in (get_or-set_same ws (a * 32 + b) p _ l) ∙ sym (put_same (matrix_in ws) a b (weight_in p)))
+  ]
+]
 
-  pub far_first : 31 < x → kept ≡ add_to ds ms x y p
+pub nothing : (n : ℕ) → n ≡ 1024 → Agree (matrix_in (replicate n (record { dropped = 1; merged = 0 }))) empty 32
+nothing n e i j l h = ap weight_in (get_or-replicate {A = Weight} n _ (record { dropped = 1; merged = 0 }) (record { dropped = 0; merged = 0 }) (omega arith))
+
+module _ (ws : List Weight) (x y : ℕ) (p : counting.Weight) where
+  pub kept_first : 32 ≤ x → ws ≡ add_to ws x y p
   unfolding add_to
-  far_first i = simp (le-ltb x 32 i)
+  kept_first i = simp (le-ltb x 32 i)
 
-  pub far_second : x ≤ 31 → 31 < y → kept ≡ add_to ds ms x y p
+  pub kept_second : x < 32 → 32 ≤ y → ws ≡ add_to ws x y p
   unfolding add_to
-  far_second i j = simp (near x i, le-ltb y 32 j)
+  kept_second i j = simp (lt-ltb x 32 i, le-ltb y 32 j)
 
-  pub short_dropped : x ≤ 31 → y ≤ 31 → length ds < 1024 → kept ≡ add_to ds ms x y p
+  pub here : (at : ℕ) (q : Weight) → x < 32 → y < 32 → at ≡ place_of_pair x y
+      → weight_in q ≡ held limit (beside (weight_in (weight_at ws at)) p) → set ws at q ≡ add_to ws x y p
   unfolding add_to
-  short_dropped i j l = simp (near x i, near y j, lt-leb 1024 (length ds) l)
+  here at q i j o e = ap (λ (u : counting.Weight). set ws at (record { dropped = u.dropped; merged = u.merged })) e ∙ simp (lt-ltb x 32 i, lt-ltb y 32 j, o)
 
-  pub short_merged : x ≤ 31 → y ≤ 31 → 1024 ≤ length ds → length ms < 1024 → kept ≡ add_to ds ms x y p
-  unfolding add_to
-  short_merged i j l w = simp (near x i, near y j, le-leb 1024 (length ds) l, lt-leb 1024 (length ms) w)
-
-  pub here : (at a b : ℕ) → x ≤ 31 → y ≤ 31 → 1024 ≤ length ds → 1024 ≤ length ms → at ≡ place_of_pair x y
-      → weigh a b ≡ held limit (beside (weigh (get_or ds at 0) (get_or ms at 0)) p) → record { dropped = set ds at a; merged = set ms at b } ≡ add_to ds ms x y p
-  unfolding add_to
-  here at a b i j l w o e = ap (λ (q : Weight). record { dropped = set ds at q.dropped; merged = set ms at q.merged }) e
-      ∙ simp (near x i, near y j, le-leb 1024 (length ds) l, le-leb 1024 (length ms) w, o)
-
-module _ (ds ms : List ℕ) (long : 1024 ≤ length ds) (wide : 1024 ≤ length ms) where
-  -- a link added beside what stands at a place
-  abbrev both : ℕ → Weight → Weight
-  both at p = held limit (beside (weigh (get_or ds at 0) (get_or ms at 0)) p)
-
+module _ (ws : List Weight) (long : 1024 ≤ length ws) where
   -- the link's row and column are known
-  store : (high low : ℕ) (p : Weight) → low < high → high < 32
-      → let at = high * 32 + low in
-      Agree (matrix_of (set ds at (both at p).dropped) (set ms at (both at p).merged)) (put (matrix_of ds ms) high low (both at p)) 32
-  store high low p l h i j k n = let q = both (high * 32 + low) p in matrix_set ds ms high low q.dropped q.merged i j (omega arith) (omega arith) (omega arith) (omega arith)
+  store : (high low : ℕ) (p : counting.Weight) → low < high → high < 32
+      → let q = held limit (beside (matrix_in ws high low) p) in
+      Agree (matrix_in (set ws (high * 32 + low) (record { dropped = q.dropped; merged = q.merged }))) (put (matrix_in ws) high low q) 32
+  store high low p l h i j k n = matrix_set ws high low _ i j (omega arith) (omega arith) (omega arith)
 
-  stored : (x y : ℕ) (p : Weight) → x < 32 → y < 32 → ¬ (x ≡ y) → let a = beside_at ds ms (place_of_pair x y) p in Added ds ms x y p a.dropped a.merged
-  stored x y p i j n = record {
-    long = length-set ds (place_of_pair x y) _;
-    wide = length-set ms (place_of_pair x y) _;
-    agree = elim (decide (ltb x y)) [
-      | inl t ↦ rw ((T_true (ltb x y)).0 t) (store y x p (ltb→lt x y t) j)
-      | inr t ↦ rw ((T_false (ltb x y)).0 t) (store x y p (omega (arith, not_ltb→le x y t)) i)
-    ];
-  }
-
-  pub added : (x y : ℕ) (p : Weight) (d m : List ℕ) → x < 32 → y < 32 → ¬ (x ≡ y) → record { dropped = d; merged = m } ≡ add_to ds ms x y p → Added ds ms x y p d m
+  pub added : (x y : ℕ) (p : counting.Weight) (us : List Weight) → x < 32 → y < 32 → ¬ (x ≡ y) → us ≡ add_to ws x y p
+      → Agree (matrix_in us) (add_held limit (matrix_in ws) x y p) 32
   unfolding add_to
-  added x y p d m i j n e =
-      subst (λ (a : Arrays). Added ds ms x y p a.dropped a.merged)
-      (sym (e ∙ (simp (lt-ltb x 32 i, lt-ltb y 32 j, le-leb 1024 (length ds) long, le-leb 1024 (length ms) wide)))) (stored x y p i j n)
+  added x y p us i j n e = rw (e, lt-ltb x 32 i, lt-ltb y 32 j) (elim (decide (ltb x y)) [
+    | inl t ↦ rw ((T_true (ltb x y)).0 t) (store y x p (ltb→lt x y t) j)
+    | inr t ↦ rw ((T_false (ltb x y)).0 t) (store x y p (omega (arith, not_ltb→le x y t)) i)
+  ])

@@ -1,57 +1,68 @@
-//! The weights of links between nodes, held at the limit: how many ways leave a link's two nodes apart, and how many join them.
-//! What they count stands in counts' specs/Counting.antt, and what an array of them holds in its specs/Matrix.antt.
+//! Links between 32 nodes and their weights, held at the limit: how many ways leave a link's two nodes apart, and how many join them.
+//! What they count stands in counts' specs/Counting.antt, and the matrix that links by value hold in specs/Weights.antt.
 #![tactic(auto)]
 
-ghost use Rattle.std.specs.Prelude.{◌≡◌, ◌*◌, ◌+◌, ◌<◌, min};
+ghost use Rattle.std.specs.Prelude.{◌≡◌, ◌*◌, ◌+◌, ◌<◌, min, replicate};
 ghost use Rattle.counts.specs.Counting.{behind, beside};
-ghost use Rattle.counts.specs.Matrix.{held, limit};
-ghost use Rattle.weights.specs.Weights.{add_to, place_of_pair, weight_in};
+ghost use Rattle.counts.specs.Matrix.{Agree, add_held, held, limit};
+ghost use Rattle.counts.specs.States.{empty};
+ghost use Rattle.weights.specs.Weights.{add_to, matrix_in, place_of_pair, weight_in};
 
-/// How many ways leave two nodes apart, and how many join them.
-#[derive(Clone, Copy)]
-pub struct Weight {
-    pub dropped: u32,
-    pub merged: u32,
-}
-
-// A number held at the limit.
-fn held(x: u64) -> u32
-    ensures { result ≡ min limit x }
-{
-    if x < 4000000001 { x as u32 } else { 4000000001 }
-}
+/// Where every number is held: one more than the greatest count that is answered.
+pub const LIMIT: u32 = 4_000_000_001;
 
 /// A product, held.
 pub fn times(a: u32, b: u32) -> u32
     ensures { result ≡ min limit (a * b) }
 {
-    held(a as u64 * b as u64)
+    a.saturating_mul(b).min(LIMIT)
 }
 
 /// A sum, held.
 pub fn plus(a: u32, b: u32) -> u32
     ensures { result ≡ min limit (a + b) }
 {
-    held(a as u64 + b as u64)
+    a.saturating_add(b).min(LIMIT)
 }
 
-/// Two links between the same nodes, as one.
-pub fn beside(a: Weight, b: Weight) -> Weight
-    ensures { weight_in result ≡ held limit (beside (weight_in a) (weight_in b)) }
-{
-    Weight {
-        dropped: times(a.dropped, b.dropped),
-        merged: plus(times(a.dropped, b.merged), times(a.merged, b.dropped)),
+/// How many ways leave two nodes apart, and how many join them.
+#[derive(Clone, Copy, Debug, PartialEq, Eq)]
+pub struct Weight {
+    pub dropped: u32,
+    pub merged: u32,
+}
+
+impl Weight {
+    /// The weight of two nodes that nothing joins.
+    pub const ABSENT: Weight = Weight {
+        dropped: 1,
+        merged: 0,
+    };
+
+    /// Two links between the same nodes, as one.
+    pub fn beside(self, other: Weight) -> Weight
+        ensures { weight_in result ≡ held limit (beside (weight_in self) (weight_in other)) }
+    {
+        Weight {
+            dropped: times(self.dropped, other.dropped),
+            merged: plus(
+                times(self.dropped, other.merged),
+                times(self.merged, other.dropped),
+            ),
+        }
     }
-}
 
-/// Two links one after the other, as one between their outer ends.
-pub fn behind(a: Weight, b: Weight) -> Weight
-    ensures { weight_in result ≡ held limit (behind (weight_in a) (weight_in b)) }
-{
-    Weight {
-        dropped: plus(times(a.merged, b.dropped), times(a.dropped, b.merged)),
-        merged: times(a.merged, b.merged),
+    /// Two links one after the other, as one between their outer ends.
+    pub fn behind(self, next: Weight) -> Weight
+        ensures { weight_in result ≡ held limit (behind (weight_in self) (weight_in next)) }
+    {
+        Weight {
+            dropped: plus(
+                times(self.merged, next.dropped),
+                times(self.dropped, next.merged),
+            ),
+            merged: times(self.merged, next.merged),
+        }
     }
 }
 
@@ -63,28 +74,31 @@ fn place(x: usize, y: usize) -> usize
     if x < y { y * 32 + x } else { x * 32 + y }
 }
 
-/// One more link between two of 32 nodes, beside what joins them already. Places behind the first 1,024 stay as they are.
-pub fn add(dropped: &mut [u32], merged: &mut [u32], x: usize, y: usize, weight: Weight)
-    ensures { record { dropped = dropped.new; merged = merged.new } ≡ add_to dropped.old merged.old x y (weight_in weight) }
-{
-    if 31 < x {
-        return;
+/// The weights of the links between 32 nodes: that of nodes a > b stands at a * 32 + b.
+#[derive(Clone, Copy)]
+pub struct Links {
+    pub weights: [Weight; 1024],
+}
+
+impl Links {
+    /// Nothing joins any two nodes.
+    pub fn none() -> Links
+        ensures words { result.weights ≡ replicate 1024 (record { dropped = 1; merged = 0 }) }
+        ensures absent { Agree (matrix_in result.weights) empty 32 }
+    {
+        Links {
+            weights: [Weight::ABSENT; 1024],
+        }
     }
-    if 31 < y {
-        return;
+
+    /// One more link between two nodes, beside what joins them already. There are no nodes from 32 on, and so no links of theirs.
+    pub fn add(&mut self, x: usize, y: usize, weight: Weight)
+        ensures stored { self.new.weights ≡ add_to self.old.weights x y (weight_in weight) }
+        ensures added { x < 32 → y < 32 → ¬ (x ≡ y) → Agree (matrix_in self.new.weights) (add_held limit (matrix_in self.old.weights) x y (weight_in weight)) 32 }
+    {
+        if x < 32 && y < 32 {
+            let at = place(x, y);
+            self.weights[at] = self.weights[at].beside(weight);
+        }
     }
-    if dropped.len() < 1024 {
-        return;
-    }
-    if merged.len() < 1024 {
-        return;
-    }
-    let at = place(x, y);
-    let here = Weight {
-        dropped: dropped[at],
-        merged: merged[at],
-    };
-    let both = beside(here, weight);
-    dropped[at] = both.dropped;
-    merged[at] = both.merged;
 }

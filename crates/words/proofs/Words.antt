@@ -4,18 +4,19 @@ use mathlib.Core.Path.{◌∙◌, ◌≡◌, ap, ap₂, fun_ext, refl, subst, sy
 use mathlib.Core.Bool.{Bool, and-false, and-true, or_assoc as either_assoc, false, not, true}
 use mathlib.Core.Logic.{◌↔◌, ◌⊎◌, inl, inr, ⊎_elim}
 use mathlib.Core.List.{List, [], ◌∷◌, map}
-use Prim.Native.Nat.{◌%◌, ◌*◌, ◌+◌, ◌-◌, ◌/◌, ◌<◌, ◌^◌, ◌≤◌, suc, zero, ℕ}
+use Prim.Native.Nat.{◌%◌, ◌*◌, ◌+◌, ◌-◌, ◌/◌, ◌<◌, ◌^◌, ◌≤◌, max, min, suc, zero, ℕ}
 use native.Mathlib.Decide.{dec_lt, ℕ_discrete}
-use native.Mathlib.Nat.{div-eq_of_lt, mod-eq_of_lt, pow-suc, zero-div}
+use native.Mathlib.Nat.{add-zero, div-eq_of_lt, pow-suc, zero-div}
 use native.Mathlib.Numerals.{add-one}
 use native.Mathlib.Omega.{arith}
-use lib.Arith.{bin_ind}
-use lib.Bits.{and_le_r, and_mod, and_shr, bit_and, bit_or, bit_xor, or_add_and, or_mod, or_shr, shifted_even, shifted_half, xor_mod, xor_shr}
-use lib.Count.{ones, ones-le, ones_step, trailing_le, count_trailing_zeros, under}
-use lib.Dec.{T, eqb, eqb-suc-suc, eqb-suc-zero, eqb-zero-suc, eqb→eq, leb, leb-suc-suc, leb-suc-zero, leb-zero, ltb, ltb→lt}
+use lib.Bits.{and_le_r, bit_and, bit_or, bit_xor, or_add_and}
+use lib.Count.{ones, ones-le, ones_step, count_trailing_zeros, under}
+use lib.Dec.{T, eqb, eqb→eq, ltb, ltb→lt}
 use lib.ListN.{length, length-map}
-use lib.Pow.{pow_mono, shl_exact, shr_lt, shr-shr}
-use borrow.Author.Tests.{le-ltb, lt-ltb}
+use lib.Pow.{pow_mono, pow_pos, shl_exact, shr_lt, shr-shr}
+use borrow.Author.Tests.{eq-eqb, le-ltb, lt-ltb, ne_eqb}
+use Rattle.std.specs.Int.{bit_at}
+use Rattle.std.proofs.lemmas.Nat.Bits.{bit_at-lt, bit_at-pow_other, bit_at-pow_same, bit_at-suc, bit_at-zero, bit_at_above, bit_at_and, bit_at_cat_high, bit_at_cat_low, bit_at_lowest, bit_at_ones, bit_at_ones_above, bit_at_or, bit_at_xor, same_from_bits}
 use Rattle.lists.specs.Lists.{both, either, filter_b, keep_if, pick, range, sum}
 use Rattle.lists.proofs.Maps.{map_filter}
 use Rattle.lists.proofs.Tests.{T-both, T-either, T_false, T_true, eq→eqb}
@@ -28,12 +29,13 @@ bit_elim P p q zero h = p
 bit_elim P p q (suc zero) h = q
 bit_elim P p q (suc (suc x)) h = absurd (omega arith)
 
+bit_of : {x : ℕ} → x < 2 → x ≡ pick (eqb x 1) 1 0
+bit_of {x} h = bit_elim (λ (x : ℕ). x ≡ pick (eqb x 1) 1 0) refl refl x h
+
 -- the lowest bit; bit v + 1 is bit v of the half
 low_bit : (w : ℕ) → w % 2 ≡ pick (has w 0) 1 0
 unfolding has
-low_bit w =
-    let e : w / 1 % 2 ≡ w % 2 = omega arith in
-    sym e ∙ bit_elim (λ (x : ℕ). x ≡ pick (eqb x 1) 1 0) refl refl (w / 1 % 2) (omega arith)
+low_bit w = sym (bit_at_lowest w) ∙ bit_of (bit_at-lt w 0)
 
 has_even : (w : ℕ) → w % 2 ≡ 0 → has w 0 ≡ false
 unfolding has
@@ -41,9 +43,7 @@ has_even w e = let d : w / 1 % 2 ≡ 0 = omega arith in rw d
 
 has_half : (w v : ℕ) → has w (suc v) ≡ has (w / 2) v
 unfolding has
-has_half w v =
-    let e : 1 + v ≡ suc v = omega arith in
-    ap (λ (x : ℕ). eqb (x % 2) 1) (sym (shr-shr w 1 v ∙ ap (λ (n : ℕ). w / 2 ^ n) e))
+has_half w v = ap (λ (x : ℕ). eqb x 1) (bit_at-suc w v)
 
 -- Members
 
@@ -54,32 +54,31 @@ has_zero v = rw zero-div
 -- past its bits a word has none
 pub has_beyond : (k w v : ℕ) → w < 2 ^ k → k ≤ v → has w v ≡ false
 unfolding has
-has_beyond k w v b h = rw (div-eq_of_lt {n = w} {m = 2 ^ v} (omega (arith, pow_mono h)))
+has_beyond k w v b h = rw (bit_at_above w k v b h) refl
 
 -- an operation that works on each bit by itself
-module _ (op : ℕ → ℕ → ℕ) (f : Bool → Bool → Bool)
-    (shr : (a b k : ℕ) → op a b / 2 ^ k ≡ op (a / 2 ^ k) (b / 2 ^ k))
-    (low : (a b k : ℕ) → op a b % 2 ^ k ≡ op (a % 2 ^ k) (b % 2 ^ k))
-    (bits : (y : ℕ) → y < 2 → (eqb (op 0 y) 1 ≡ f false (eqb y 1)) × (eqb (op 1 y) 1 ≡ f true (eqb y 1))) where
-  has_op : (a b v : ℕ) → has (op a b) v ≡ f (has a v) (has b v)
-  unfolding has
-  has_op a b v =
-      let y = b / 2 ^ v % 2 in
-      let at = bits y (omega arith) in
-      ap (λ (x : ℕ). eqb x 1) (ap (λ (x : ℕ). x % 2) (shr a b v) ∙ low (a / 2 ^ v) (b / 2 ^ v) 1)
-      ∙ bit_elim (λ (x : ℕ). eqb (op x y) 1 ≡ f (eqb x 1) (eqb y 1)) at.0 at.1 (a / 2 ^ v % 2) (omega arith)
+by_bits : (f : Bool → Bool → Bool) (g : ℕ → ℕ → ℕ)
+    → ((y : ℕ) → y < 2 → (eqb (g 0 y) 1 ≡ f false (eqb y 1)) × (eqb (g 1 y) 1 ≡ f true (eqb y 1)))
+    → (x y : ℕ) → x < 2 → y < 2 → eqb (g x y) 1 ≡ f (eqb x 1) (eqb y 1)
+by_bits f g table x y p q = bit_elim (λ (x : ℕ). eqb (g x y) 1 ≡ f (eqb x 1) (eqb y 1)) (table y q).0 (table y q).1 x p
 
 pub has_or : (a b v : ℕ) → has (bit_or a b) v ≡ either (has a v) (has b v)
-has_or = has_op bit_or (λ a b. either a b) or_shr or_mod
-    (bit_elim (λ (y : ℕ). (eqb (bit_or 0 y) 1 ≡ eqb y 1) × (eqb (bit_or 1 y) 1 ≡ true)) (refl, refl) (refl, refl))
+unfolding has
+has_or a b v = rw bit_at_or (by_bits (λ a b. either a b) max
+    (bit_elim (λ (y : ℕ). (eqb (max 0 y) 1 ≡ eqb y 1) × (eqb (max 1 y) 1 ≡ true)) (refl, refl) (refl, refl))
+    (bit_at a v) (bit_at b v) (bit_at-lt a v) (bit_at-lt b v))
 
 pub has_and : (a b v : ℕ) → has (bit_and a b) v ≡ both (has a v) (has b v)
-has_and = has_op bit_and (λ a b. both a b) and_shr and_mod
-    (bit_elim (λ (y : ℕ). (eqb (bit_and 0 y) 1 ≡ false) × (eqb (bit_and 1 y) 1 ≡ eqb y 1)) (refl, refl) (refl, refl))
+unfolding has
+has_and a b v = rw bit_at_and (by_bits (λ a b. both a b) min
+    (bit_elim (λ (y : ℕ). (eqb (min 0 y) 1 ≡ false) × (eqb (min 1 y) 1 ≡ eqb y 1)) (refl, refl) (refl, refl))
+    (bit_at a v) (bit_at b v) (bit_at-lt a v) (bit_at-lt b v))
 
 has_xor : (a b v : ℕ) → has (bit_xor a b) v ≡ pick (has a v) (not (has b v)) (has b v)
-has_xor = has_op bit_xor (λ a b. pick a (not b) b) xor_shr xor_mod
-    (bit_elim (λ (y : ℕ). (eqb (bit_xor 0 y) 1 ≡ eqb y 1) × (eqb (bit_xor 1 y) 1 ≡ not (eqb y 1))) (refl, refl) (refl, refl))
+unfolding has
+has_xor a b v = rw bit_at_xor (by_bits (λ a b. pick a (not b) b) (λ x y. (x + y) % 2)
+    (bit_elim (λ (y : ℕ). (eqb ((0 + y) % 2) 1 ≡ eqb y 1) × (eqb ((1 + y) % 2) 1 ≡ not (eqb y 1))) (refl, refl) (refl, refl))
+    (bit_at a v) (bit_at b v) (bit_at-lt a v) (bit_at-lt b v))
 
 pub has_minus : (a b v : ℕ) → has (minus a b) v ≡ both (has a v) (not (has b v))
 unfolding minus
@@ -92,12 +91,10 @@ has_minus a b v = has_xor a (bit_and a b) v ∙ ap (λ (x : Bool). pick (has a v
 -- one number alone
 power_bit : (u v : ℕ) → has (2 ^ u) v ≡ eqb u v
 unfolding has
-power_bit zero zero = refl
-power_bit zero (suc v) = has_half 1 v ∙ has_zero v ∙ sym (eqb-zero-suc v)
-power_bit (suc u) zero = has_even (2 ^ suc u) (simp pow-suc (omega arith)) ∙ sym (eqb-suc-zero u)
-power_bit (suc u) (suc v) =
-    let e : 2 ^ suc u / 2 ≡ 2 ^ u = simp pow-suc (omega arith) in
-    has_half (2 ^ suc u) v ∙ ap (λ (x : ℕ). has x v) e ∙ power_bit u v ∙ sym (eqb-suc-suc u v)
+power_bit u v = elim (ℕ_discrete v u) [
+  | yes e ↦ rw (e, bit_at-pow_same, eq-eqb u u refl)
+  | no n ↦ rw (bit_at-pow_other u v n, ne_eqb u v (λ e. n (sym e)))
+]
 
 pub has_bit : (u v : ℕ) → u < 64 → has (bit u) v ≡ eqb u v
 unfolding bit
@@ -116,36 +113,20 @@ bit_out u v t = elim (dec_lt u 64) [
 pub bit_in : (u v : ℕ) → v < 64 → u ≡ v → T (has (bit u) v)
 bit_in u v h e = rw (has_bit u v (omega arith)) (eq→eqb u v e)
 
--- those from s up
-from_bit : (s w v : ℕ) → has (w / 2 ^ s * 2 ^ s) v ≡ both (has w v) (leb s v)
-from_bit zero w v =
-    let e : w / 1 * 1 ≡ w = omega arith in
-    ap (λ (x : ℕ). has x v) e ∙ sym (ap (both (has w v)) (leb-zero v) ∙ and-true (has w v))
-from_bit (suc s) w zero =
-    has_even (w / 2 ^ suc s * 2 ^ suc s) (shifted_even (w / 2 ^ suc s) s) ∙ sym (ap (both (has w 0)) (leb-suc-zero s) ∙ and-false (has w 0))
-from_bit (suc s) w (suc v) =
-    let h : 1 + s ≡ suc s = omega arith in
-    let e : w / 2 ^ suc s ≡ w / 2 / 2 ^ s = sym (shr-shr w 1 s ∙ ap (λ (n : ℕ). w / 2 ^ n) h) in
-    has_half (w / 2 ^ suc s * 2 ^ suc s) v
-    ∙ ap (λ (x : ℕ). has x v) (shifted_half (w / 2 ^ suc s) s ∙ ap (λ (x : ℕ). x * 2 ^ s) e)
-    ∙ from_bit s (w / 2) v ∙ ap₂ both (sym (has_half w v)) (sym (leb-suc-suc s v))
-
 pub has_above : (w u v : ℕ) → has (above w u) v ≡ both (has w v) (ltb u v)
-unfolding above
-has_above w u v = from_bit (suc u) w v
+unfolding above has
+has_above w u v = elim (dec_lt u v) [
+  | yes h ↦ rw (lt-ltb u v h, and-true, ← add-zero (w / 2 ^ suc u * 2 ^ suc u), bit_at_cat_high (w / 2 ^ suc u) (suc u) 0 v (omega (arith, pow_pos (suc u))) (omega arith))
+      (let e : suc u + (v - suc u) ≡ v = omega arith in
+      ap (λ (x : ℕ). eqb (x % 2) 1) (shr-shr w (suc u) (v - suc u) ∙ ap (λ (n : ℕ). w / 2 ^ n) e))
+  | no n ↦ rw (le-ltb u v (omega arith), and-false, ← add-zero (w / 2 ^ suc u * 2 ^ suc u), bit_at_cat_low (w / 2 ^ suc u) (suc u) 0 v (omega arith), bit_at-zero) refl
+]
 
 -- WORDS ARE SETS
 
 pub words_same : (a b : ℕ) → ((v : ℕ) → has a v ≡ has b v) → a ≡ b
-words_same = bin_ind (λ (a : ℕ). (b : ℕ) → ((v : ℕ) → has a v ≡ has b v) → a ≡ b)
-    (bin_ind (λ (b : ℕ). ((v : ℕ) → has 0 v ≡ has b v) → 0 ≡ b) (λ h. refl) (λ b step h. whole 0 b (step (halves 0 b h)) h))
-    (λ a step b h. whole a b (step (b / 2) (halves a b h)) h)
-  where
-    halves : (a b : ℕ) → ((v : ℕ) → has a v ≡ has b v) → (v : ℕ) → has (a / 2) v ≡ has (b / 2) v
-    halves a b h v = sym (has_half a v) ∙ h (suc v) ∙ has_half b v
-
-    whole : (a b : ℕ) → a / 2 ≡ b / 2 → ((v : ℕ) → has a v ≡ has b v) → a ≡ b
-    whole a b e h = let d : a % 2 ≡ b % 2 = low_bit a ∙ ap (λ (x : Bool). pick x 1 0) (h 0) ∙ sym (low_bit b) in omega arith
+unfolding has
+words_same a b h = same_from_bits a b (λ v. bit_of (bit_at-lt a v) ∙ ap (λ (x : Bool). pick x 1 0) (h v) ∙ sym (bit_of (bit_at-lt b v)))
 
 pub or_assoc : (a b c : ℕ) → bit_or (bit_or a b) c ≡ bit_or a (bit_or b c)
 or_assoc a b c = words_same (bit_or (bit_or a b) c) (bit_or a (bit_or b c)) (λ v. simp has_or (either_assoc (has a v) (has b v) (has c v)))
@@ -229,11 +210,6 @@ above_none w v b h =
 
 -- The least member
 
--- what the code computes
-pub lowest_byte : (w : ℕ) → count_trailing_zeros 64 w % 256 ≡ lowest w
-unfolding lowest
-lowest_byte w = mod-eq_of_lt (omega (arith, trailing_le 64 w))
-
 -- of an odd number the lowest digit is set; of an even one the zeros go on in its half
 odd_or_even : (P : ℕ → Type 0) (n t : ℕ) → (n % 2 ≡ 1 → P 0) → (n % 2 ≡ 0 → P (suc t)) → P (under (n % 2) t)
 odd_or_even P n t p q = bit_elim (λ (x : ℕ). n % 2 ≡ x → P (under x t)) q p (n % 2) (omega arith) refl
@@ -294,9 +270,50 @@ next_member w j h = record {
 
 -- The numbers from 1 to n
 
-pub up_next : (n : ℕ) → bit_or (up_to n) (bit (n + 1)) ≡ up_to (n + 1)
+-- all numbers below 64
+abbrev full : ℕ
+full = 2 ^ 64 - 1
+
+full_has : (v : ℕ) → has full v ≡ ltb v 64
+unfolding has
+full_has v = elim (dec_lt v 64) [
+  | yes h ↦ rw (bit_at_ones 64 v h, lt-ltb v 64 h) refl
+  | no n ↦ rw (bit_at_ones_above 64 v (omega arith), le-ltb v 64 (omega arith)) refl
+]
+
+bit_has : (u v : ℕ) → has (bit u) v ≡ both (has full v) (eqb u v)
+bit_has u v = elim (dec_lt u 64) [
+  | yes h ↦ elim (ℕ_discrete u v) [
+    | yes e ↦ rw (has_bit u v h, full_has, eq-eqb u v e, lt-ltb v 64 (omega arith)) refl
+    | no n ↦ rw (has_bit u v h, ne_eqb u v n, and-false) refl
+  ]
+  | no m ↦ elim (ℕ_discrete u v) [
+    | yes e ↦ rw (sym (bit_none u (omega arith)), has_zero, full_has, le-ltb v 64 (omega arith)) refl
+    | no n ↦ rw (sym (bit_none u (omega arith)), has_zero, ne_eqb u v n, and-false) refl
+  ]
+]
+
+-- as the code has them: all above 0 that are not above n
+abbrev between : ℕ → ℕ
+between n = minus (above full 0) (above full n)
+
+between_has : (n v : ℕ) → has (between n) v ≡ both (both (has full v) (ltb 0 v)) (not (both (has full v) (ltb n v)))
+between_has n v = rw (has_minus, has_above, has_above) refl
+
+pub up_between : (n : ℕ) → between n ≡ up_to n
 unfolding up_to
-up_next n = rw add-one
+up_between zero = words_same _ _ (λ v. between_has 0 v ∙ none (both (has full v) (ltb 0 v)) ∙ sym (has_zero v))
+  where
+    none : (x : Bool) → both x (not x) ≡ false
+    none true = refl
+    none false = refl
+up_between (suc n) = words_same _ _ (λ v. between_has (suc n) v ∙ next v (has full v)
+    ∙ sym (has_or (up_to n) (bit (suc n)) v ∙ ap₂ either (ap (λ (w : ℕ). has w v) (sym (up_between n)) ∙ between_has n v) (bit_has (suc n) v)))
+  where
+    next : (v : ℕ) (x : Bool)
+        → both (both x (ltb 0 v)) (not (both x (ltb (suc n) v))) ≡ either (both (both x (ltb 0 v)) (not (both x (ltb n v)))) (both x (eqb (suc n) v))
+    next v false = refl
+    next v true = grind arith
 
 pub up_has : (n v : ℕ) → n < 64 → T (has (up_to n) v) ↔ ((1 ≤ v) × (v ≤ n))
 unfolding up_to

@@ -1,4 +1,4 @@
-use mathlib.Core.Path.{◌≡◌, refl}
+use mathlib.Core.Path.{refl}
 use Prim.Native.Nat.{◌+◌, ◌<◌}
 use native.Mathlib.Omega.{arith}
 use lib.ListN.{length-map}
@@ -21,9 +21,3 @@ loop-i-preserved c =
     let l = c.loop-i in
     let small : c.entered_at-node.result < 256 = search rules in
     (omega arith, entered_next _ l.entries l.i c.entered_at-node.result c.loop-i-test.true c.entered_at-node.ensures small l.invariant.1)
-
-pub returns : goal.returns
-returns c v h =
-    let l = c.loop-i in
-    let none : l.i ≡ 0 = omega arith in
-    (rw none at l.invariant.1).holds v h

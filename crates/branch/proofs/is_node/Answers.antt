@@ -1,9 +1,11 @@
-use mathlib.Core.Path.{sym}
-use Rattle.branch.proofs.Laws.{no_node, node_below}
+use mathlib.Core.Path.{◌∙◌, ◌≡◌}
+use lib.Dec.{leb, ltb}
+use Rattle.std.proofs.Common.{rules}
+use Rattle.lists.specs.Lists.{both}
+use Rattle.branch.proofs.Laws.{node_is}
 use Rattle.branch.proofs.is_node.Goals as goal
 
-pub returns-then-v-eq0 : goal.returns-then-v-eq0
-returns-then-v-eq0 c = sym (no_node _ _ c.if-v-eq0.true)
-
 pub returns : goal.returns
-returns c = node_below _ _ c.if-v-eq0.false
+returns c =
+    let within : c.contains.result ≡ both (ltb 0 c.args.v) (leb c.args.v c.args.limit) = search rules in
+    within ∙ node_is c.args.v c.args.limit

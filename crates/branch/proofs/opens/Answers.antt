@@ -3,8 +3,7 @@ use mathlib.Core.Path.{◌∙◌, ◌≡◌}
 use lib.ListN.{take}
 use borrow.Author.Rules.{rules}
 use Rattle.paths.specs.Path.{keys_of}
-use Rattle.chosen.specs.Chosen.{rows_of}
-use Rattle.tally.specs.Tally.{table_of}
+use Rattle.find.specs.Space.{network_of}
 use Rattle.branch.specs.Branch.{flags_of}
 use Rattle.branch.proofs.Question.{node, opened, small}
 use Rattle.branch.proofs.opens.Goals as goal
@@ -15,9 +14,9 @@ shortened-requires c = search rules
 pub returns : goal.returns
 returns c musts asked =
     let a = c.args in
+    let ends = a.space.ends in
     let inc = c.standing-rows.ensures (small asked) in
-    let us : c.coming-free.result ≡ flags_of a.firsts.now a.seconds.now a.heads.now a.limit 1 (take a.len (keys_of a.path)) =
+    let us : c.coming-free.result ≡ flags_of ends.firsts.now ends.seconds.now a.heads.now a.space.limit 1 (take a.len (keys_of a.path)) =
     rw (c.shortened.ensures.0 ∙ asked.plant, c.shortened.ensures.1) at c.coming-free.ensures in
-    let answer = c.find-found.ensures asked.tables (rw (inc, us) (node asked a.len)) in
-    opened asked a.len (table_of a.kinds a.k a.costs.now a.leads.now) c.find-found.result.some (rows_of c.find-found.result.rows)
-    (rw (inc, us) at answer)
+    let answer = c.find.ensures asked.tables (rw (inc, us) (node asked a.len)) in
+    rw c.is_some.ensures (opened asked a.len (network_of a.space) c.find.result (rw (inc, us) at answer))

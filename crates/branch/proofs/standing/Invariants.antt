@@ -1,4 +1,4 @@
--- The loop's invariant: the rows so far and what the rows from place i on give are all rows that are in. The measure is how many rows of the path are left.
+-- The loop's invariant: the rows so far and what the rows from place i on give are all rows that are in.
 use mathlib.Core.Path.{◌≡◌}
 use mathlib.Core.List.{◌++◌}
 use Prim.Native.Nat.{◌-◌, ◌<◌, ◌≤◌, ℕ}
@@ -10,11 +10,5 @@ use Rattle.branch.specs.Branch.{standing_of}
 use Rattle.branch.proofs.standing.Given as goal
 
 abbrev pub invariant-loop-i : goal.invariant-loop-i
-invariant-loop-i l = (l.i ≤ l.n)
-    × (l.n ≤ 31)
-    × (l.n ≡ length (rows_in l.path))
-    × (length (rows_of l.rows) ≤ l.i)
+invariant-loop-i l = (length (rows_of l.rows) ≤ l.i)
     × (((r : ℕ) → r ∈ rows_in l.path → r < 256) → standing_of l.heads l.len (rows_in l.path) ≡ rows_of l.rows ++ standing_of l.heads (l.len - l.i) (drop l.i (rows_in l.path)))
-
-abbrev pub decreases-loop-i : goal.decreases-loop-i
-decreases-loop-i l = l.n - l.i

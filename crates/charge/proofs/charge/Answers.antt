@@ -1,40 +1,34 @@
--- The charge by the number that `drawn` answers, the file's sizes, the buffer's length and the criterion.
-use mathlib.Core.Path.{◌∙◌, ap, sym}
-use mathlib.Core.List.{List}
-use Prim.Native.Nat.{◌-◌, ◌<◌, ◌≤◌, ℕ}
+-- The charge by the answer of `drawn`, the file's sizes, the buffer's length and the criterion.
+use mathlib.Core.Path.{◌∙◌, sym}
+use Prim.Native.Nat.{◌≤◌}
 use native.Mathlib.Omega.{arith}
-use lib.ListN.{length}
-use Rattle.checks.specs.Checks.{answered}
-use Rattle.charges.specs.Charges.{Charge, charge_of}
+use borrow.Author.Tests.{leb-true}
+use borrow.Author.Rules.{rules}
 use Rattle.charge.proofs.Laws.{charge_refused, charge_short, charge_split, charge_strange, nodes_low, quotient_small, total_small}
 use Rattle.charge.proofs.charge.Goals as goal
-use Rattle.charge.proofs.charge.Goals.{After-added-total, Then-buffer-places}
+use Rattle.charge.proofs.charge.Goals.{After-added-total}
 
-pub returns-then-number-ne0 : goal.returns-then-number-ne0
-returns-then-number-ne0 c = charge_refused _ _ _ c.drawn-drawn.ensures _ _ c.if-number-ne0.true
+pub returns-in_err-path : goal.returns-in_err-path
+returns-in_err-path c = search (rules, charge_refused)
 
 pub overflow_sub-nodes : goal.overflow_sub-nodes
-overflow_sub-nodes c = omega (arith, nodes_low _ _ _ c.drawn-drawn.ensures c.if-number-ne0.false c.header_of-header.ensures)
+overflow_sub-nodes c = omega (arith, nodes_low _ _ c.in_ok-path.path c.in_ok-path.ensures c.header_of-header.ensures)
 
--- 11 is answered where the buffer is short
-short : (c : Then-buffer-places) → length c.args.buffer.now < c.header_of-header.result.n - 1
-short c = omega arith
+pub returns-in_err-check : goal.returns-in_err-check
+returns-in_err-check c =
+    let short = charge_short _ _ c.in_ok-path.path c.in_ok-path.ensures c.header_of-header.ensures c.args.criterion c.args.buffer.now c.in_err-check.ensures.0 in
+    search (rules, short)
 
-pub returns-then-buffer-places : goal.returns-then-buffer-places
-returns-then-buffer-places c =
-    charge_short _ _ _ c.drawn-drawn.ensures c.if-number-ne0.false c.header_of-header.ensures _ _ (short c)
-
-pub returns-then-not-added : goal.returns-then-not-added
-returns-then-not-added c =
-    let room : c.header_of-header.result.n - 1 ≤ length c.args.buffer.now = omega arith in
-    charge_strange _ _ _ c.drawn-drawn.ensures c.if-number-ne0.false c.header_of-header.ensures _ _ room
-    (sym c.is_added-added.ensures ∙ c.if-not-added.true)
+pub returns-in_err-check-2 : goal.returns-in_err-check-2
+returns-in_err-check-2 c =
+    let strange = charge_strange _ _ c.in_ok-path.path c.in_ok-path.ensures c.header_of-header.ensures _ _ c.in_ok-check.ensures (sym c.is_added.ensures ∙ c.in_err-check-2.ensures.0) in
+    search (rules, strange)
 
 several : (c : After-added-total) → 2 ≤ c.header_of-header.result.n
-several c = nodes_low _ _ _ c.drawn-drawn.ensures c.if-number-ne0.false c.header_of-header.ensures
+several c = nodes_low _ _ c.in_ok-path.path c.in_ok-path.ensures c.header_of-header.ensures
 
 small : (c : After-added-total) → c.added-total.result ≤ 31000000
-small c = total_small _ _ _ c.drawn-drawn.ensures c.if-number-ne0.false _ c.added-total.ensures
+small c = total_small _ _ c.in_ok-path.path c.in_ok-path.ensures _ c.added-total.ensures
 
 pub overflow_cast-total : goal.overflow_cast-total
 overflow_cast-total c = omega (arith, small c)
@@ -46,11 +40,10 @@ pub nonzero_rem-remainder : goal.nonzero_rem-remainder
 nonzero_rem-remainder c = omega (arith, several c)
 
 pub put-requires : goal.put-requires
-put-requires c = (c.if-buffer-places.false, quotient_small _ _ (small (goal.at.put-requires c).After-added-total))
+put-requires c = (leb-true _ _ c.in_ok-check.ensures, quotient_small _ _ (small (goal.at.put-requires c).After-added-total))
 
 pub returns : goal.returns
 returns c =
-    let charge : Charge = charge_of c.added-total.result (c.header_of-header.result.n - 1) in
-    ap (λ (l : List ℕ). record { outcome = answered charge; buffers = l }) c.put.ensures
-    ∙ charge_split _ _ _ c.drawn-drawn.ensures c.if-number-ne0.false c.header_of-header.ensures _ _ c.if-buffer-places.false
-    c.added-total.ensures (sym c.is_added-added.ensures ∙ c.if-not-added.false)
+    let whole = charge_split _ _ c.in_ok-path.path c.in_ok-path.ensures c.header_of-header.ensures _ _ c.in_ok-check.ensures
+    c.added-total.ensures (sym c.is_added.ensures ∙ c.in_ok-check-2.ensures) in
+    search (rules, whole, c.put.ensures)

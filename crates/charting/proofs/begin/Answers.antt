@@ -1,7 +1,7 @@
-use borrow.Author.Rules.{rules}
+use mathlib.Core.Path.{refl}
 use Rattle.chart.specs.Chart.{begun_by}
 use Rattle.charting.proofs.begin.Goals as goal
 
 pub returns : goal.returns
 unfolding begun_by
-returns c = search rules
+returns c = refl

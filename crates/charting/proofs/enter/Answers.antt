@@ -1,12 +1,11 @@
-use mathlib.Core.Path.{◌∙◌}
 use borrow.Author.Tests.{lt-ltb}
 use Rattle.chart.specs.Chart.{entered_by}
 use Rattle.charting.proofs.enter.Goals as goal
 
-pub returns-then-r-gt255 : goal.returns-then-r-gt255
+pub returns-then-r-le255 : goal.returns-then-r-le255
 unfolding entered_by
-returns-then-r-gt255 c = simp (lt-ltb _ _ c.if-r-gt255.true)
+returns-then-r-le255 c = c.enter_by.ensures
 
-pub returns : goal.returns
+pub returns-else-r-le255 : goal.returns-else-r-le255
 unfolding entered_by
-returns c = c.enter_by.ensures ∙ rw c.number_of.ensures
+returns-else-r-le255 c = simp (lt-ltb _ _ c.if-r-le255.false)

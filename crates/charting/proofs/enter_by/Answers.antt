@@ -1,40 +1,25 @@
-use borrow.Author.Tests.{eq-eqb, le-ltb, lt-ltb, ne_eqb}
+use borrow.Author.Tests.{le-ltb, lt-ltb}
 use Rattle.chart.specs.Chart.{entered_by}
 use Rattle.charting.proofs.enter_by.Goals as goal
+use Rattle.charting.proofs.enter_by.Goals.{then-a-gt32-via-then-a-gt32, then-a-gt32-via-else-a-gt32+then-b-gt32}
 
 pub returns-then-a-gt32 : goal.returns-then-a-gt32
 unfolding entered_by
-returns-then-a-gt32 c = simp (le-ltb _ _ c.requires, lt-ltb _ _ c.if-a-gt32.true)
+returns-then-a-gt32 c = elim c.then-a-gt32.branch [
+  | then-a-gt32-via-then-a-gt32 w ↦ simp (le-ltb _ _ c.requires, lt-ltb _ _ w.if-a-gt32.true)
+  | then-a-gt32-via-else-a-gt32+then-b-gt32 w ↦ simp (le-ltb _ _ c.requires, le-ltb _ _ w.if-a-gt32.false, lt-ltb _ _ w.if-b-gt32.true)
+]
 
-pub returns-then-b-gt32 : goal.returns-then-b-gt32
+pub returns-in-Open : goal.returns-in-Open
 unfolding entered_by
-returns-then-b-gt32 c = simp (le-ltb _ _ c.requires, le-ltb _ _ c.if-a-gt32.false, lt-ltb _ _ c.if-b-gt32.true)
+returns-in-Open c = simp (le-ltb _ _ c.requires, le-ltb _ _ c.if-a-gt32.false, le-ltb _ _ c.if-b-gt32.false, c.in-Open.is) c.link.ensures
 
-pub returns-then-state-eq2 : goal.returns-then-state-eq2
+pub returns-in-Must : goal.returns-in-Must
 unfolding entered_by
-returns-then-state-eq2 c =
-    simp (le-ltb _ _ c.requires, le-ltb _ _ c.if-a-gt32.false, le-ltb _ _ c.if-b-gt32.false, eq-eqb _ _ c.if-state-eq2.true) (rw c.row_word.ensures)
+returns-in-Must c =
+    simp (le-ltb _ _ c.requires, le-ltb _ _ c.if-a-gt32.false, le-ltb _ _ c.if-b-gt32.false, c.in-Must.is) (rw (← c.link-in-Must.ensures) c.claim.ensures)
 
-pub returns-then-state-eq1 : goal.returns-then-state-eq1
+pub returns-in-Barred : goal.returns-in-Barred
 unfolding entered_by
-returns-then-state-eq1 c =
-    simp (
-      le-ltb _ _ c.requires,
-      le-ltb _ _ c.if-a-gt32.false,
-      le-ltb _ _ c.if-b-gt32.false,
-      ne_eqb _ _ c.if-state-eq2.false,
-      eq-eqb _ _ c.if-state-eq1.true,
-    )
-    (rw (← c.link.ensures) c.claim.ensures)
-
-pub returns : goal.returns
-unfolding entered_by
-returns c =
-    simp (
-      le-ltb _ _ c.requires,
-      le-ltb _ _ c.if-a-gt32.false,
-      le-ltb _ _ c.if-b-gt32.false,
-      ne_eqb _ _ c.if-state-eq2.false,
-      ne_eqb _ _ c.if-state-eq1.false,
-    )
-    c.link-2.ensures
+returns-in-Barred c =
+    simp (le-ltb _ _ c.requires, le-ltb _ _ c.if-a-gt32.false, le-ltb _ _ c.if-b-gt32.false, c.in-Barred.is) (rw c.row_word.ensures)

@@ -1,11 +1,8 @@
--- The loop's invariant: with the first r rows entered the chart is what it is to become. The measure is r.
+-- The loop's invariant: with the first r rows entered the chart is what it is to become.
 use mathlib.Core.Path.{◌≡◌}
 use Rattle.network_file.specs.File.{network_of}
 use Rattle.chart.specs.Chart.{entered_down}
 use Rattle.charting.proofs.enter_cut.Given as goal
 
 abbrev pub invariant-loop-r : goal.invariant-loop-r
-invariant-loop-r l = entered_down (network_of l.file).rows l.initial.r l.initial.chart ≡ entered_down (network_of l.file).rows l.r l.chart
-
-abbrev pub decreases-loop-r : goal.decreases-loop-r
-decreases-loop-r l = l.r
+invariant-loop-r l = entered_down (network_of l.file).rows l.initial.r l.initial.chart.words ≡ entered_down (network_of l.file).rows l.r l.chart.words

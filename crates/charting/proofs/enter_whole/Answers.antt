@@ -1,4 +1,4 @@
-use mathlib.Core.Path.{◌∙◌, ◌≡◌, refl, sym}
+use mathlib.Core.Path.{◌∙◌, ◌≡◌, sym}
 use borrow.Author.Tests.{eq-eqb, ne_eqb}
 use Prim.Native.Nat.{◌+◌, ◌-◌}
 use native.Mathlib.Omega.{arith}
@@ -6,15 +6,9 @@ use lib.Dec.{eqb}
 use Rattle.lists.specs.Lists.{pick}
 use Rattle.network_file.specs.File.{byte_at, version}
 use Rattle.chart.specs.Chart.{entered_down}
-use Rattle.chart.proofs.Files.{has_bytes, has_less, has_stated, has_turn}
+use Rattle.chart.proofs.Files.{has_less, has_stated, has_turn}
 use Rattle.charting.proofs.enter_whole.Goals as goal
 use Rattle.charting.proofs.enter_whole.Goals.{Joined-two, then-two, else-two}
-
-pub loop-r-init : goal.loop-r-init
-loop-r-init c = (refl, c.requires)
-
-pub overflow_sub-at : goal.overflow_sub-at
-overflow_sub-at c = has_bytes c.loop-r.invariant.1 c.loop-r-test.true c.row_bytes-step.ensures
 
 pub bounds-file-at : goal.bounds-file-at
 bounds-file-at c =
@@ -33,7 +27,7 @@ pub loop-r-preserved : goal.loop-r-preserved
 loop-r-preserved c =
     let (entered, has) = c.loop-r.invariant in
     let bytes = c.row_bytes-step.ensures in (
-      entered ∙ has_turn has c.loop-r-test.true bytes _ _ (read (goal.at.loop-r-preserved c).Joined-two) ∙ rw (c.enter_by.ensures, c.number_of.ensures, c.state_by-named.ensures),
+      entered ∙ has_turn has c.loop-r-test.true bytes _ _ (read (goal.at.loop-r-preserved c).Joined-two) ∙ rw (c.enter_by.ensures, c.state_by-state.ensures),
       has_less has c.loop-r-test.true bytes,
     )
 

@@ -12,7 +12,7 @@ use Rattle.charting.proofs.of_file.Goals.{After-placed-count, After-row_bytes}
 reach : (c : After-row_bytes) → c.placed-count.result * c.row_bytes.result ≤ 65536 * 1025
 reach c =
     let k = ap (λ (s : Sizes). s.k) c.header_of-header.ensures in
-    rw c.row_bytes.ensures (row_reach _ c.placed-count.result (omega (arith, c.placed-count.ensures.1)) (omega (arith, k, c.struct_known-2-1.given)))
+    rw c.row_bytes.ensures (row_reach _ c.placed-count.result (omega (arith, c.placed-count.ensures.1)) (omega (arith, k)))
 
 pub overflow_mul-end : goal.overflow_mul-end
 overflow_mul-end c = omega (arith, reach c)
@@ -20,23 +20,13 @@ overflow_mul-end c = omega (arith, reach c)
 pub overflow_add-end-2 : goal.overflow_add-end-2
 overflow_add-end-2 c = omega (arith, reach c)
 
-pub enter_whole-requires : goal.enter_whole-requires
-enter_whole-requires c =
-    let header = c.header_of-header.ensures in
-    record {
-      within = omega (arith, ap (λ (s : Sizes). s.m) header, c.placed-count.ensures.0);
-      few = c.placed-count.ensures.1;
-      start = rw (ap (λ (s : Sizes). s.k) header, c.row_bytes.ensures);
-      long = c.if-end-file.true;
-    }
-
 -- the chart is begun, and the rows that have a place are left
 begun : (c : After-placed-count)
-    → file_chart_on c.args.file.now c.args.chart.now ≡ entered_down (network_of c.args.file.now).rows c.placed-count.result c.begin.new.chart
+    → file_chart_on c.args.file.now c.args.chart.now.words ≡ entered_down (network_of c.args.file.now).rows c.placed-count.result c.begin.new.chart.words
 begun c =
     let header = c.header_of-header.ensures in
     file_start _ _ _ _ _ _ _ _ (ap (λ (s : Sizes). s.n) header) (ap (λ (s : Sizes). s.m) header)
-    c.up_to.ensures c.tree_rows.ensures c.begin.ensures c.placed-count.ensures.0
+    c.up_to.ensures c.saturating_sub.ensures c.begin.ensures c.placed-count.ensures.0
 
 pub returns-then-end-file : goal.returns-then-end-file
 returns-then-end-file c = c.enter_whole.ensures ∙ sym (begun (goal.at.returns-then-end-file c).After-placed-count)

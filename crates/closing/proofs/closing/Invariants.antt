@@ -1,11 +1,13 @@
--- The loop's invariant: the sum is what the rows from step i on add to the closing cost of all rows. Its measure: the steps to come.
+-- The loop's invariant: the sum so far, and what the rows from row i on add, are the closing cost of all rows.
+use mathlib.Core.Path.{◌≡◌}
+use Prim.Native.Nat.{◌+◌}
+use lib.ListN.{drop}
+use Rattle.costs.specs.Costs.{closing_cost}
 use Rattle.network_file.specs.File.{network_of}
-use Rattle.paths.specs.Path.{rows_in}
-use Rattle.closing.proofs.Streets.{ClosingTo}
+use Rattle.closing.proofs.Streets.{closing_from}
 use Rattle.closing.proofs.closing.Given as goal
 
 abbrev pub invariant-loop-i : goal.invariant-loop-i
-invariant-loop-i l = ClosingTo (network_of l.file) l.criterion (rows_in l.path) l.i l.sum
-
-abbrev pub decreases-loop-i : goal.decreases-loop-i
-decreases-loop-i l = l.i
+invariant-loop-i l =
+    let g = network_of l.file in
+    l.sum + closing_from g l.criterion l.rows (drop l.i l.rows) ≡ closing_cost g l.criterion l.rows

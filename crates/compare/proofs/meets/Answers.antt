@@ -1,23 +1,18 @@
-use mathlib.Core.Path.{◌∙◌, ap, sym}
-use borrow.Author.Rules.{rules}
-use Rattle.lists.specs.Lists.{any}
-use Rattle.compare.proofs.Compare.{none_short}
-use Rattle.compare.proofs.Rows.{any_end, any_more, any_yes, rest_start}
+use mathlib.Core.Path.{◌∙◌, sym}
+use Rattle.std.proofs.Common.{rules}
+use Rattle.compare.proofs.Compare.{met_end, met_more, met_yes, pieces_short}
 use Rattle.compare.proofs.meets.Goals as goal
 
-pub loop-row-init : goal.loop-row-init
-loop-row-init c = (ap (any _) (rest_start _ _ _), search rules)
-
-pub returns-then-costs-from : goal.returns-then-costs-from
-returns-then-costs-from c = sym (c.loop-row.invariant.0 ∙ none_short _ _ _ _ c.if-costs-from.true)
+pub returns-in_default : goal.returns-in_default
+returns-in_default c = sym (c.loop.invariant ∙ pieces_short _ _ _ (search rules))
 
 pub returns-then-none_larger : goal.returns-then-none_larger
-returns-then-none_larger c =
-    sym (c.loop-row.invariant.0 ∙ any_yes _ _ _ _ _ c.loop-row-test.true (cc))
+returns-then-none_larger c = sym (c.loop.invariant ∙ met_yes _ _ _ _ c.loop-test.true (search rules))
 
-pub loop-row-preserved : goal.loop-row-preserved
-loop-row-preserved c =
-    (c.loop-row.invariant.0 ∙ any_more _ _ _ _ _ c.loop-row-test.true (cc), search rules)
+pub loop-preserved : goal.loop-preserved
+loop-preserved c =
+    let more = met_more c.args.vector.now c.loop.left.now _ _ c.loop-test.true (search rules) in
+    c.loop.invariant ∙ more ∙ (search rules)
 
 pub returns : goal.returns
-returns c = sym (c.loop-row.invariant.0 ∙ any_end _ _ _ _ _ c.loop-row-test.false)
+returns c = sym (c.loop.invariant ∙ met_end _ _ _ _ c.loop-test.false)

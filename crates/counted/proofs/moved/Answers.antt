@@ -1,20 +1,16 @@
 use native.Mathlib.Omega.{arith}
-use Rattle.weights.proofs.Stores.{added}
-use Rattle.counted.proofs.Laws.{moving_end, moving_next, moving_skip, moving_start}
+use Rattle.counted.proofs.Laws.{moving_end, moving_next, moving_skip}
 use borrow.Author.Rules.{rules}
 use Rattle.counted.proofs.moved.Goals as goal
+use Rattle.counted.proofs.moved.Goals.{else-y-x, then-y-x}
 
-pub loop-j-init : goal.loop-j-init
-loop-j-init c = moving_start _ _ _ _ (search rules) (search rules) (search rules) (search rules)
-
-pub loop-j-preserved-then-i-x : goal.loop-j-preserved-then-i-x
-loop-j-preserved-then-i-x c =
-    let i = c.loop-j.invariant in
-    moving_next i _ _ (search rules) (search rules)
-    (added _ _ (omega (arith, i.some, i.long)) (omega (arith, i.some_merged, i.wide)) _ _ _ _ _ (search rules) (search rules) (search rules) c.add.ensures)
-
-pub loop-j-preserved : goal.loop-j-preserved
-loop-j-preserved c = moving_skip c.loop-j.invariant (search rules) (search rules)
+pub loop-y-preserved : goal.loop-y-preserved
+loop-y-preserved c = elim c.if-y-x.branch [
+  | then-y-x w ↦ rw w.links-is (
+      moving_next c.loop-y.invariant _ (search rules) w.if-y-x.true
+      (w.add.ensures.added (search rules) (search rules) (λ e. omega (arith, w.if-y-x.true))))
+  | else-y-x w ↦ rw w.links-is (moving_skip c.loop-y.invariant (search rules) w.if-y-x.false)
+]
 
 pub returns : goal.returns
-returns c = moving_end c.loop-j.invariant (search rules)
+returns c = moving_end c.loop-y.invariant (search rules)

@@ -1,10 +1,7 @@
--- The loop's invariant: with the links from j on moved too, it is the matrix with all links moved (`Moving`). The measure is how many links are left.
-use Prim.Native.Nat.{◌-◌}
+-- The loop's invariant: with the links from y on moved too, it is the matrix with all links moved (`Moving`).
+use Rattle.weights.specs.Weights.{matrix_in}
 use Rattle.counted.proofs.Laws.{Moving}
 use Rattle.counted.proofs.moved.Given as goal
 
-abbrev pub invariant-loop-j : goal.invariant-loop-j
-invariant-loop-j l = Moving l.v l.x l.initial.dropped l.initial.merged l.dropped l.merged l.j
-
-abbrev pub decreases-loop-j : goal.decreases-loop-j
-decreases-loop-j l = l.v - l.j
+abbrev pub invariant-loop-y : goal.invariant-loop-y
+invariant-loop-y l = Moving l.v l.x (matrix_in l.fn.links.weights) (matrix_in l.links.weights) l.y

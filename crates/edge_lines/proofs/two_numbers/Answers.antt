@@ -1,22 +1,24 @@
--- `edge_lines::two_numbers` meets its contract.
-use mathlib.Core.Path.{◌∙◌}
-use native.Mathlib.Omega.{arith}
-use lib.ListN.{length-take}
-use Rattle.edge_lines.proofs.Pairs.{both_none, both_some, two_held, two_none}
+-- Two numbers by the place of the first space.
+use Rattle.std.proofs.Common.{refl}
+use Rattle.edge_file.specs.Text.{space}
+use Rattle.edge_lines.proofs.Pairs.{two_held, two_none}
+use Rattle.edge_lines.proofs.Places.{place_first, place_none}
 use Rattle.edge_lines.proofs.two_numbers.Goals as goal
 
-pub returns-then-n-at : goal.returns-then-n-at
-returns-then-n-at c = two_none _ c.first_place-at.ensures c.if-n-at.true
+pub returns-in_err-space : goal.returns-in_err-space
+returns-in_err-space c = rw c.from_residual.ensures (two_none _ refl (place_none space _ c.in_err-space.ensures))
 
-pub slice_bounds-number_of-end : goal.slice_bounds-number_of-end
-slice_bounds-number_of-end c = simp length-take (omega arith)
+pub returns-in_err-first : goal.returns-in_err-first
+returns-in_err-first c =
+    let (within, is, none) = c.in_ok-space.ensures in
+    rw c.from_residual-in_err-first.ensures (two_held _ (place_first space _ within is none) within c.in_err-first.ensures refl)
 
-pub returns-then-first : goal.returns-then-first
-returns-then-first c =
-    both_some c.number_of-second.result.some c.number_of-first.result.value c.number_of-second.result.value c.if-first.true
-    ∙ two_held _ c.first_place-at.ensures c.if-n-at.false c.number_of-first.ensures c.number_of-second.ensures
+pub returns-in_err-second : goal.returns-in_err-second
+returns-in_err-second c =
+    let (within, is, none) = c.in_ok-space.ensures in
+    rw c.from_residual-in_err-second.ensures (two_held _ (place_first space _ within is none) within c.in_ok-first.ensures c.in_err-second.ensures)
 
-pub returns-else-first : goal.returns-else-first
-returns-else-first c =
-    both_none _ _ c.if-first.false
-    ∙ two_held _ c.first_place-at.ensures c.if-n-at.false c.number_of-first.ensures c.number_of-second.ensures
+pub returns : goal.returns
+returns c =
+    let (within, is, none) = c.in_ok-space.ensures in
+    two_held _ (place_first space _ within is none) within c.in_ok-first.ensures c.in_ok-second.ensures

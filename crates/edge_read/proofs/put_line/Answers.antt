@@ -1,15 +1,18 @@
--- `edge_read::put_line` meets its contract.
+-- A line that is no edge line has no bytes.
+use Rattle.std.proofs.Common.{◌∙◌, ◌≡◌, ℕ, [], ap, refl}
+use Rattle.edge_lines.specs.Numbers.{line_in}
+use Rattle.edge_lines.specs.declared.TextLine.{TextLine}
+use Rattle.edge_lines.specs.declared.TextLine.TheVariants as read
+use Rattle.printout.specs.Text.{put}
 use Rattle.printout.proofs.Laws.{put_none}
+use Rattle.edge_read.specs.Scan.{line_bytes}
 use Rattle.edge_read.proofs.put_line.Goals as goal
 
-pub returns-in-Comment : goal.returns-in-Comment
-returns-in-Comment c = rw c.in-Comment.is (put_none _ _)
+no_edge : (l : TextLine) → ((u v : ℕ) → ¬ (l ≡ read.Edge u v)) → [] ≡ line_bytes (line_in l)
+no_edge read.Comment n = refl
+no_edge (read.Problem a b) n = refl
+no_edge (read.Edge u v) n = absurd (n u v refl)
+no_edge read.Other n = refl
 
-pub returns-in-Problem : goal.returns-in-Problem
-returns-in-Problem c = rw c.in-Problem.is (put_none _ _)
-
-pub returns-in-Edge : goal.returns-in-Edge
-returns-in-Edge c = rw c.in-Edge.is c.text.ensures
-
-pub returns-in-Other : goal.returns-in-Other
-returns-in-Other c = rw c.in-Other.is (put_none _ _)
+pub returns-in_default : goal.returns-in_default
+returns-in_default c = put_none _ _ ∙ ap (put c.args.buffer.now c.args.at) (no_edge c.args.line c.in_default.not-Edge)

@@ -1,12 +1,8 @@
--- `edge_read::put_rows` meets its contract. The loop's invariant: what has been put into the buffer, with the rows of the lines behind the cursor, comes to the
--- rows of all lines. The measure is how many bytes of the text are left.
-use Prim.Native.Nat.{◌-◌}
-use lib.ListN.{length}
+-- What has been put into the buffer, with the rows of the lines that are left, comes to the rows of all lines (`RowsTo`).
+use Rattle.edge_lines.specs.Numbers.{lines_left}
+use Rattle.edge_lines.specs.Reading.{held_lines}
 use Rattle.edge_read.proofs.Turns.{RowsTo}
 use Rattle.edge_read.proofs.put_rows.Given as goal
 
 abbrev pub invariant-loop-line : goal.invariant-loop-line
-invariant-loop-line l = RowsTo l.text l.cursor.at l.initial.buffer l.from l.buffer l.at
-
-abbrev pub decreases-loop-line : goal.decreases-loop-line
-decreases-loop-line l = length l.text - l.cursor.at
+invariant-loop-line l = RowsTo (held_lines l.text) (lines_left l.line-iterator) l.initial.buffer l.from l.buffer l.at

@@ -1,19 +1,13 @@
-use native.Mathlib.Omega.{arith}
-use Rattle.edge_read.proofs.Turns.{scan_end, scan_room, scan_start_lem, scan_turn, turn_less}
+use Rattle.std.proofs.Common.{arith}
+use Rattle.edge_read.proofs.Held.{held_few}
+use Rattle.edge_read.proofs.Turns.{scan_end, scan_room, scan_turn}
 use Rattle.edge_read.proofs.scan.Goals as goal
 
-pub loop-line-init : goal.loop-line-init
-loop-line-init c = scan_start_lem _
-
-pub returns-in_default : goal.returns-in_default
-returns-in_default c = scan_end c.loop-line.invariant c.in_default.is c.step-step.ensures
-
-pub with_line-tally-requires : goal.with_line-tally-requires
-with_line-tally-requires c = omega (arith, scan_room c.loop-line.invariant c.in-Line.is c.step-step.ensures)
-
-pub loop-line-smaller : goal.loop-line-smaller
-loop-line-smaller c = turn_less _ _ c.in-Line.is c.step-step.ensures
+pub with-tally-requires : goal.with-tally-requires
+with-tally-requires c = omega (arith, scan_room c.loop-line.invariant c.in-Some.ensures.steps, held_few c.args.text.now)
 
 pub loop-line-preserved : goal.loop-line-preserved
-loop-line-preserved c =
-    scan_turn c.loop-line.invariant c.in-Line.is c.step-step.ensures c.with_line-tally.ensures.0 c.with_line-tally.ensures.1
+loop-line-preserved c = scan_turn c.loop-line.invariant c.in-Some.ensures.steps c.with-tally.ensures.scanned c.with-tally.ensures.few
+
+pub returns : goal.returns
+returns c = scan_end c.loop-line.invariant c.in-None.ensures.steps.0

@@ -1,13 +1,13 @@
--- The digits of a number by its tests against 10 and 100.
-use mathlib.Core.Path.{sym}
+-- The digits of a number by its range.
+use Rattle.std.proofs.Common.{arith, sym}
 use Rattle.edge_file.proofs.Decimal.{decimal_one, decimal_three, decimal_two}
 use Rattle.edge_write.proofs.digits.Goals as goal
 
-pub returns-then-x-lt10 : goal.returns-then-x-lt10
-returns-then-x-lt10 c = sym (decimal_one _ c.if-x-lt10.true)
+pub returns-in-0-to-9-clause-count : goal.returns-in-0-to-9-clause-count
+returns-in-0-to-9-clause-count c = sym (decimal_one _ (omega arith))
 
-pub returns-then-x-lt100 : goal.returns-then-x-lt100
-returns-then-x-lt100 c = sym (decimal_two _ c.if-x-lt10.false c.if-x-lt100.true)
+pub returns-in-10-to-99-clause-count : goal.returns-in-10-to-99-clause-count
+returns-in-10-to-99-clause-count c = sym (decimal_two _ (omega arith) (omega arith))
 
-pub returns-else-x-lt100 : goal.returns-else-x-lt100
-returns-else-x-lt100 c = sym (decimal_three _ c.if-x-lt100.false c.requires)
+pub returns-in_default-clause-count : goal.returns-in_default-clause-count
+returns-in_default-clause-count c = sym (decimal_three _ (omega arith) c.requires)

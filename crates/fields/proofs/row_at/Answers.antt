@@ -1,5 +1,4 @@
-use mathlib.Core.Path.{◌∙◌, ap, refl}
-use Rattle.network_file.specs.File.{state_or}
+use mathlib.Core.Path.{refl}
 use Rattle.fields.proofs.Laws.{row_read}
 use Rattle.fields.proofs.row_at.Goals as goal
 
@@ -7,4 +6,4 @@ pub returns-then-at-file : goal.returns-then-at-file
 returns-then-at-file c =
     row_read _ _ _ c.header_of-header.ensures _ _ _ _ c.state_or_open-state.result _ c.if-row-m.true c.row_start-at.ensures.0
     refl refl c.u16_at.ensures c.state_at.ensures
-    (c.state_or_open-state.ensures ∙ ap state_or c.state_of.ensures)
+    c.state_or_open-state.ensures

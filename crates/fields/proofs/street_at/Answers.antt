@@ -1,12 +1,5 @@
-use borrow.Author.Rules.{rules}
 use Rattle.fields.proofs.Laws.{street_none, street_read}
 use Rattle.fields.proofs.street_at.Goals as goal
-
-pub header_of-header-requires : goal.header_of-header-requires
-header_of-header-requires c = search rules
-
-pub overflow_cast-m : goal.overflow_cast-m
-overflow_cast-m c = search rules
 
 pub returns-then-row-m : goal.returns-then-row-m
 returns-then-row-m c =

@@ -5,8 +5,8 @@ use lib.ListN.{length}
 use Rattle.fill.proofs.Turns.{Kept}
 use Rattle.fill.proofs.fill_from.Given as goal
 
-abbrev pub invariant-loop-some : goal.invariant-loop-some
-invariant-loop-some l = Kept l.chart l.width l.initial.page l.initial.entered l.initial.pivots l.initial.rows l.initial.sets l.initial.some l.page l.entered l.pivots l.rows l.sets l.some l.at l.count
+abbrev pub invariant-loop-page : goal.invariant-loop-page
+invariant-loop-page l = Kept l.chart.words l.width l.initial.page l.initial.entered l.initial.pivots l.initial.rows l.initial.sets l.page l.entered l.pivots l.rows l.sets l.at l.count
 
-abbrev pub decreases-loop-some : goal.decreases-loop-some
-decreases-loop-some l = length l.initial.page - l.at
+abbrev pub decreases-loop-page : goal.decreases-loop-page
+decreases-loop-page l = length l.initial.page - l.at

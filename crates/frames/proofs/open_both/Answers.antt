@@ -1,9 +1,10 @@
--- A refusal of the first file is the call's.
-use Rattle.frames.proofs.Opening.{file_met, file_stops, first_stops}
+-- Both files are accepted.
+use mathlib.Core.Path.{sym}
+use Rattle.network_file.proofs.Opened.{open_answered}
 use Rattle.frames.proofs.open_both.Goals as goal
 
-pub accepted_both-requires : goal.accepted_both-requires
-accepted_both-requires c = file_met _ c.open-opened.ensures c.in-Header.is
-
-pub returns-in-Refused : goal.returns-in-Refused
-returns-in-Refused c = first_stops _ _ _ (file_stops _ c.open-opened.ensures c.in-Refused.is)
+pub same_frame-requires : goal.same_frame-requires
+same_frame-requires c =
+    let (met, sizes) = open_answered _ _ (sym c.in_ok-one.ensures) in
+    let (others_met, others) = open_answered _ _ (sym c.in_ok-two.ensures) in
+    (met, sym sizes, others_met, sym others)

@@ -1,23 +1,17 @@
--- Three ways to the answer: other nodes, other criteria, and else the kind bytes.
-use mathlib.Core.Path.{◌∙◌, sym}
-use native.Mathlib.Omega.{arith}
-use Rattle.frames.proofs.Agreeing.{frame_criteria, frame_kinds, frame_nodes, kinds_there}
+use mathlib.Core.Path.{◌∙◌}
+use borrow.Author.Tests.{ne_eqb}
+use Rattle.frames.proofs.Agreeing.{kinds_decide, kinds_there, pointwise_same, nodes_decide}
 use Rattle.frames.proofs.same_frame.Goals as goal
+
+pub slice_bounds-kinds-end : goal.slice_bounds-kinds-end
+slice_bounds-kinds-end c = kinds_there _ c.requires.1 c.requires.0
+
+pub slice_bounds-others-end : goal.slice_bounds-others-end
+slice_bounds-others-end c = kinds_there _ c.requires.3 c.requires.2
 
 pub returns-then-one-two : goal.returns-then-one-two
 returns-then-one-two c =
-    sym (frame_nodes _ _ c.requires.1 c.requires.3 c.if-one-two.true)
+    c.eq.ensures ∙ pointwise_same _ _ ∙ kinds_decide _ _ c.requires.1 c.requires.3 c.requires.0 c.requires.2 c.if-one-two.true
 
-pub returns-then-one-two-2 : goal.returns-then-one-two-2
-returns-then-one-two-2 c =
-    sym (frame_criteria _ _ c.requires.1 c.requires.3 c.requires.0 c.requires.2 c.if-one-two-2.true)
-
-pub kinds_agree-requires : goal.kinds_agree-requires
-kinds_agree-requires c =
-    let first_there = kinds_there _ c.requires.1 c.requires.0 in
-    let second_there = kinds_there _ c.requires.3 c.requires.2 in
-    (omega (arith, first_there, second_there), omega (arith, first_there, second_there))
-
-pub returns : goal.returns
-returns c =
-    c.kinds_agree.ensures ∙ frame_kinds _ _ c.requires.1 c.requires.3 c.requires.0 c.requires.2 c.if-one-two.false c.if-one-two-2.false
+pub returns-else-one-two : goal.returns-else-one-two
+returns-else-one-two c = ne_eqb _ _ c.if-one-two.false ∙ nodes_decide _ _ c.requires.1 c.requires.3 c.if-one-two.false

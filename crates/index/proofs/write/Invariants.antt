@@ -11,8 +11,8 @@ use Rattle.index.proofs.Entries.{Written}
 use Rattle.index.proofs.write.Given as goal
 
 abbrev pub invariant-loop-tree : goal.invariant-loop-tree
-invariant-loop-tree l = Placed l.width l.initial.index l.index l.at l.count × (length l.tree.rows ≡ 31)
-    × (Walkable l.chart → tree_of l.width l.initial.tree ≡ get_elem? (list_in l.chart) 0 → 1 ≤ l.spacing → Written l.width l.spacing (list_in l.chart) l.initial.index l.index l.tree l.at l.count)
+invariant-loop-tree l = Placed l.width l.initial.index l.index l.at l.count
+    × (Walkable l.chart.words → tree_of l.width l.initial.tree ≡ get_elem? (list_in l.chart.words) 0 → 1 ≤ l.spacing → Written l.width l.spacing (list_in l.chart.words) l.initial.index l.index l.tree l.at l.count)
 
 abbrev pub decreases-loop-tree : goal.decreases-loop-tree
 decreases-loop-tree l = length l.initial.index - l.at

@@ -1,21 +1,21 @@
-use mathlib.Core.Path.{◌∙◌, sym}
-use borrow.Author.Tests.{le-leb, lt-leb}
-use Rattle.lists.proofs.Ranges.{all_range_end, all_range_next, all_range_stop}
-use Rattle.network.proofs.Laws.{cost_read, costs_from_lem}
+use mathlib.Core.Path.{◌∙◌, ◌≡◌, ap}
+use Prim.Native.Nat.{◌+◌, ◌*◌, ℕ}
+use native.Mathlib.Omega.{arith}
+use lib.Dec.{leb}
+use borrow.Author.Rules.{rules}
+use Rattle.network_file.specs.File.{byte_at, u32_at}
+use Rattle.network.specs.Rows.{costs_from}
+use Rattle.network.proofs.Laws.{cost_fine, u32_moved}
+use Rattle.lists.proofs.Runs.{pieces_run}
 use Rattle.network.proofs.costs_sound.Goals as goal
 
-pub loop-c-init : goal.loop-c-init
-loop-c-init c = costs_from_lem _ _ _
-
-pub returns-then-u32_in-gt1000000 : goal.returns-then-u32_in-gt1000000
-returns-then-u32_in-gt1000000 c =
-    sym (c.loop-c.invariant ∙ all_range_stop _ _ _ c.loop-c-test.true
-    (cost_read _ _ _ _ c.u32_in.ensures ∙ lt-leb _ 1000000 c.if-u32_in-gt1000000.true))
-
-pub loop-c-preserved : goal.loop-c-preserved
-loop-c-preserved c =
-    c.loop-c.invariant ∙ all_range_next _ _ _ c.loop-c-test.true
-    (cost_read _ _ _ _ c.u32_in.ensures ∙ le-leb _ 1000000 c.if-u32_in-gt1000000.false)
-
 pub returns : goal.returns
-returns c = sym (c.loop-c.invariant ∙ all_range_end _ _ _ c.loop-c-test.false)
+unfolding costs_from cost_fine
+returns c =
+    let (p, from, outcome) = c.all.ensures.runs in
+    pieces_run p _ _ (search rules) (cost_fine c.args.bytes.now 0) 4 (search (rules, from)) (search (rules, from)) (omega arith) (c.chunks_exact.ensures.runs p p.seen)
+    (λ k x h piece b called.
+    let asked : b ≡ leb (u32_at x.now 0) 1000000 = search (rules, called) in
+    let moved = u32_moved x.now c.args.bytes.now 0 (0 + 4 * k) (λ d l. piece.reads (0 + d) (omega (arith, l)) ∙ ap (byte_at c.args.bytes.now) (omega arith)) in
+    asked ∙ ap (λ (y : ℕ). leb y 1000000) moved)
+    c.all.result outcome

@@ -1,21 +1,12 @@
--- What the borrow checker leaves to prove of planner_count.
-use mathlib.Core.Path.{◌∙◌, ap, refl, sym}
-use mathlib.Core.List.{[], ◌∷◌}
-use Rattle.count.specs.Answers.{counted_of}
 use Rattle.planner_c.specs.Calls.{planner_count}
-use Rattle.planner_c.proofs.Laws.{answering_one, answering_refused, answering_short}
+use Rattle.planner_c.proofs.Laws.{answering_short, answering_told}
+use borrow.Author.Rules.{rules}
 use Rattle.planner_c.proofs.planner_count.Goals as goal
 
-pub returns-then-answer-lt1 : goal.returns-then-answer-lt1
+pub returns-then-is_empty : goal.returns-then-is_empty
 unfolding planner_count
-returns-then-answer-lt1 c = answering_short (λ trees. trees ∷ []) _ _ 1 c.if-answer-lt1.true
+returns-then-is_empty c = answering_short _ _ _ _ (search rules)
 
-pub returns-in-Trees : goal.returns-in-Trees
+pub returns : goal.returns
 unfolding planner_count
-returns-in-Trees c =
-    answering_one (λ trees. trees ∷ []) _ _ _ _ c.if-answer-lt1.false (sym c.count-counted.ensures ∙ ap counted_of c.in-Trees.is) refl
-
-pub returns-in-Refused : goal.returns-in-Refused
-unfolding planner_count
-returns-in-Refused c =
-    answering_refused (λ trees. trees ∷ []) _ _ 1 _ c.if-answer-lt1.false (sym c.count-counted.ensures ∙ ap counted_of c.in-Refused.is)
+returns c = answering_told _ _ _ _ _ _ _ _ (search rules) c.count.ensures c.status.ensures

@@ -1,21 +1,12 @@
--- What the borrow checker leaves to prove of planner_dimacs_read.
-use mathlib.Core.Path.{ap, refl}
-use mathlib.Core.List.{[], ◌∷◌}
-use Rattle.edge_read.specs.Answers.{read_of}
 use Rattle.planner_c.specs.Calls.{planner_dimacs_read}
-use Rattle.planner_c.proofs.Laws.{beside_one, beside_refused, beside_short}
+use Rattle.planner_c.proofs.Laws.{beside_short, beside_told}
+use borrow.Author.Rules.{rules}
 use Rattle.planner_c.proofs.planner_dimacs_read.Goals as goal
 
-pub returns-then-answer-lt1 : goal.returns-then-answer-lt1
+pub returns-then-is_empty : goal.returns-then-is_empty
 unfolding planner_dimacs_read
-returns-then-answer-lt1 c = beside_short (λ bytes. bytes ∷ []) _ _ _ 1 c.if-answer-lt1.true
+returns-then-is_empty c = beside_short _ _ _ _ _ (search rules)
 
-pub returns-in-Length : goal.returns-in-Length
+pub returns : goal.returns
 unfolding planner_dimacs_read
-returns-in-Length c =
-    beside_one (λ bytes. bytes ∷ []) _ _ _ _ _ c.read-outcome.ensures _ _ c.if-answer-lt1.false (ap read_of c.in-Length.is) refl
-
-pub returns-in-Refused : goal.returns-in-Refused
-unfolding planner_dimacs_read
-returns-in-Refused c =
-    beside_refused (λ bytes. bytes ∷ []) _ _ _ _ _ c.read-outcome.ensures 1 _ c.if-answer-lt1.false (ap read_of c.in-Refused.is)
+returns c = beside_told _ _ _ _ _ _ _ _ _ _ (search rules) c.read.ensures c.status.ensures

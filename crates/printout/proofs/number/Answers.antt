@@ -1,5 +1,5 @@
 -- A space, and then the digits that `io::decimal` spells.
-use Rattle.printout.proofs.Numbers.{number_behind, spelled}
+use Rattle.printout.proofs.Spelling.{number_behind, spelled}
 use Rattle.printout.proofs.number.Goals as goal
 
 pub returns : goal.returns

@@ -1,18 +1,12 @@
-use mathlib.Core.Path.{refl}
-use native.Mathlib.Omega.{arith}
-use Rattle.copies.proofs.Pasting.{pasting_more, pasting_start}
-use borrow.Author.Tests.{ltb-true}
-use Rattle.printout.proofs.Laws.{all_put}
+-- What fits is copied into its part of the buffer, and where nothing fits the buffer stays as it is.
+use Rattle.std.proofs.Common.{arith}
+use Rattle.printout.proofs.Laws.{copied_put, none_put}
 use Rattle.printout.proofs.text.Goals as goal
-use Rattle.printout.proofs.text.Goals.{then-loop-i-test+else-at-i, else-loop-i-test}
-
-pub loop-i-init : goal.loop-i-init
-loop-i-init c = pasting_start _ _ _ _ (omega arith) (omega arith)
-
-pub loop-i-preserved : goal.loop-i-preserved
-loop-i-preserved c = pasting_more c.loop-i.invariant _ (omega (arith, ltb-true, c.if-at-i.true)) refl
+use Rattle.printout.proofs.text.Goals.{then-n-gt0, else-n-gt0}
 
 pub returns : goal.returns
 returns c =
-    all_put c.loop-i.invariant
-    (elim c.loop-i-test.branch [ then-loop-i-test+else-at-i w ↦ omega arith | else-loop-i-test w ↦ omega arith ])
+    elim c.if-n-gt0.branch [
+      | then-n-gt0 w ↦ copied_put _ _ _ (omega arith) (omega arith) w.copy_from_slice.ensures.after w.out-is
+      | else-n-gt0 w ↦ none_put _ _ _ (omega arith) w.if-n-gt0.false w.out-is
+    ]

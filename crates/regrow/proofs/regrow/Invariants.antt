@@ -1,4 +1,4 @@
--- Whatever path the arrays held: they hold its growth up to step s, which goes on from there to the same end (`Left`), and the slices keep their lengths. The measure: 31 - s.
+-- Whatever path the arrays held: they hold its growth up to step s, which goes on from there to the same end (`Left`).
 use mathlib.Core.Path.{◌≡◌}
 use mathlib.Core.List.{List}
 use Prim.Native.Nat.{◌-◌}
@@ -11,10 +11,7 @@ use Rattle.regrow.proofs.Growing.{Left}
 use Rattle.regrow.proofs.regrow.Given as goal
 
 abbrev pub invariant-loop-s : goal.invariant-loop-s
-invariant-loop-s l = (length l.entered ≡ length l.initial.entered) × (length l.rows ≡ length l.initial.rows)
-    × ((keys : List Key) → Holds l.initial.entered l.initial.pivots l.initial.sets (plant_in l.chart) keys → length keys ≡ l.initial.s → take l.initial.s l.initial.rows ≡ rows_of keys
-    → Left l.chart (plant_in l.chart) (grown_on l.chart (plant_in l.chart) (length l.initial.rows - l.initial.s) keys l.initial.i l.initial.j) (length l.initial.rows) l.entered l.pivots
-    l.sets l.rows l.s l.i l.j)
-
-abbrev pub decreases-loop-s : goal.decreases-loop-s
-decreases-loop-s l = 31 - l.s
+invariant-loop-s l =
+    (keys : List Key) → Holds l.initial.entered l.initial.pivots l.initial.sets (plant_in l.chart.words) keys → length keys ≡ l.initial.s → take l.initial.s l.initial.rows ≡ rows_of keys
+    → Left l.chart.words (plant_in l.chart.words) (grown_on l.chart.words (plant_in l.chart.words) (length l.initial.rows - l.initial.s) keys l.initial.place l.initial.node) (length l.initial.rows) l.entered
+    l.pivots l.sets l.rows l.s l.place l.node

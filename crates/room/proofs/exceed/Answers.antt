@@ -1,19 +1,15 @@
-use native.Mathlib.Omega.{arith}
-use Rattle.room.proofs.Rooms.{left_end, left_less, left_start, left_turn}
+use mathlib.Core.Path.{◌∙◌, ◌≡◌, ap}
+use mathlib.Core.List.{map}
+use lib.Dec.{ltb}
+use lib.ListN.{get_or}
+use Rattle.std.proofs.Common.{rules}
+use Rattle.std.proofs.iter.runs.Made.{chains}
+use Rattle.std.specs.List.{sum}
+use Rattle.chosen.specs.Chosen.{rows_of}
+use Rattle.tally.proofs.Laws.{sum_is}
 use Rattle.room.proofs.exceed.Goals as goal
 
-pub loop-i-init : goal.loop-i-init
-loop-i-init c = left_start c.count-i.ensures.0
-
-pub returns-then-left-weight : goal.returns-then-left-weight
-returns-then-left-weight c =
-    left_less c.loop-i.invariant (omega arith) c.row_at.ensures c.word_at-weight.ensures
-    c.if-left-weight.true
-
-pub loop-i-preserved : goal.loop-i-preserved
-loop-i-preserved c =
-    left_turn c.loop-i.invariant (omega arith) c.row_at.ensures c.word_at-weight.ensures
-    c.if-left-weight.false
-
 pub returns : goal.returns
-returns c = left_end c.loop-i.invariant c.loop-i-test.false
+returns c =
+    let all = map (λ row. get_or c.args.weights.now row 0) (rows_of c.args.rows) in
+    let e : c.sum-weight.result ≡ sum all = search (rules, chains) in ap (ltb c.args.room) (e ∙ sum_is all)

@@ -1,13 +1,20 @@
 -- A refusal of opening both files is the call's.
-use mathlib.Core.Path.{◌∙◌, ap, sym}
-use Rattle.frames.specs.Answers.{framed_of}
+use Rattle.std.proofs.Common.{sym}
+use Rattle.std.proofs.lemmas.Result.{err_from_is_err_and}
 use Rattle.frames.proofs.Opening.{frame_answered, frame_refused}
 use Rattle.survey.proofs.Calls.{survey_frame}
 use Rattle.survey.proofs.survey.Goals as goal
 
-pub accepted_survey-requires : goal.accepted_survey-requires
-accepted_survey-requires c =
-    frame_answered _ _ _ (sym c.open_both-framed.ensures ∙ ap framed_of c.in-Headers.is)
+pub returns-in_err-first : goal.returns-in_err-first
+returns-in_err-first c =
+    let p = err_from_is_err_and c.from_residual.result c.from_residual.ensures.1 in
+    rw (p.1, p.2) (survey_frame _ _ _ _ (frame_refused _ _ _ (sym c.in_err-first.ensures)))
 
-pub returns-in-Refused : goal.returns-in-Refused
-returns-in-Refused c = survey_frame _ _ _ _ (frame_refused _ _ _ (sym c.open_both-framed.ensures ∙ ap framed_of c.in-Refused.is))
+pub invariant_of-older : goal.invariant_of-older
+invariant_of-older c = record { sized = (frame_answered _ _ _ (sym c.in_ok-first.ensures)).first_sizes }
+
+pub invariant_of-newer : goal.invariant_of-newer
+invariant_of-newer c = record { sized = (frame_answered _ _ _ (sym c.in_ok-first.ensures)).second_sizes }
+
+pub accepted_survey-requires : goal.accepted_survey-requires
+accepted_survey-requires c = frame_answered _ _ _ (sym c.in_ok-first.ensures)

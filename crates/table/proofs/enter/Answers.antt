@@ -7,20 +7,20 @@ use Rattle.pages.specs.Pages.{capacity}
 use Rattle.compare.specs.Compare.{met_in}
 use Rattle.table.specs.Parts.{place_in}
 use Rattle.table.proofs.Closing.{Bounds}
-use Rattle.table.proofs.Entering.{Fit, costs_fit, enter_full, enter_met, enter_rows, row_fits, unfit_count, unfit_path, unfit_vector, witnesses_fit}
+use Rattle.table.proofs.Entering.{Fit, enter_full, enter_met, enter_rows, row_fits, unfit_count, unfit_path, unfit_vector}
 use Rattle.table.proofs.enter.Goals as goal
-use Rattle.table.proofs.enter.Goals.{After-place_of-place, After-smaller-room, Else-meets, Else-room-count, Else-room-kept}
+use Rattle.table.proofs.enter.Goals.{After-place_of-place, After-min-room, Else-meets, Else-room-count, Else-room-kept}
 
 -- the code's room is the capacity of both tables
-room_is : (c : After-smaller-room)
+room_is : (c : After-min-room)
     → let a = c.args in
-    c.smaller-room.result ≡ capacity (length a.vector.now) (length a.path.now) a.costs.now a.witnesses.now
+    c.min-room.result ≡ capacity (length a.vector.now) (length a.path.now) a.costs.now a.witnesses.now
 unfolding capacity
-room_is c = c.smaller-room.ensures
+room_is c = c.min-room.ensures
 
 fit : (c : Else-room-count)
     → (let a = c.args in
-    c.smaller-room.result ≡ capacity (length a.vector.now) (length a.path.now) a.costs.now a.witnesses.now)
+    c.min-room.result ≡ capacity (length a.vector.now) (length a.path.now) a.costs.now a.witnesses.now)
     → let a = c.args in
     Fit a.costs.now a.witnesses.now a.count a.vector.now a.path.now
 fit c room_is' = record { some_costs = c.if-k-eq0.false; some_rows = c.if-w-eq0.false; enough = rw room_is' at c.if-room-count.false }
@@ -33,7 +33,7 @@ fits : (c : Else-room-kept)
     → (let a = c.args in
     Fit a.costs.now a.witnesses.now a.count a.vector.now a.path.now)
     → (let a = c.args in
-    c.smaller-room.result ≡ capacity (length a.vector.now) (length a.path.now) a.costs.now a.witnesses.now)
+    c.min-room.result ≡ capacity (length a.vector.now) (length a.path.now) a.costs.now a.witnesses.now)
     → let a = c.args in
     let n = c.close_up-kept.result in
     let r = c.close_up-kept.new in
@@ -58,69 +58,41 @@ pub returns-then-w-eq0 : goal.returns-then-w-eq0
 returns-then-w-eq0 c = unfit_path _ _ _ _ _ c.if-k-eq0.false c.if-w-eq0.true
 
 pub returns-then-room-count : goal.returns-then-room-count
-returns-then-room-count c = unfit_count _ _ _ _ _ c.if-k-eq0.false c.if-w-eq0.false (rw (room_is (goal.at.returns-then-room-count c).After-smaller-room) at c.if-room-count.true)
+returns-then-room-count c = unfit_count _ _ _ _ _ c.if-k-eq0.false c.if-w-eq0.false (rw (room_is (goal.at.returns-then-room-count c).After-min-room) at c.if-room-count.true)
 
 pub returns-then-meets : goal.returns-then-meets
 returns-then-meets c =
     let at = goal.at.returns-then-meets c in
-    let room = room_is at.After-smaller-room in
+    let room = room_is at.After-min-room in
     let fit' = fit at.Else-room-count room in
     enter_met fit' (sym c.meets.ensures ∙ c.if-meets.true)
-
-pub close_up-kept-requires : goal.close_up-kept-requires
-close_up-kept-requires c =
-    let at = goal.at.close_up-kept-requires c in
-    let room = room_is at.After-smaller-room in
-    let fit' = fit at.Else-room-count room in
-    (costs_fit fit' _ fit'.enough, witnesses_fit fit' _ fit'.enough)
 
 pub returns-then-room-kept : goal.returns-then-room-kept
 returns-then-room-kept c =
     let at = goal.at.returns-then-room-kept c in
-    let room = room_is at.After-smaller-room in
+    let room = room_is at.After-min-room in
     let fit' = fit at.Else-room-count room in
     enter_full fit' c.close_up-kept.ensures (unmet at.Else-meets) (rw room at c.if-room-kept.true)
-
-pub place_of-place-requires : goal.place_of-place-requires
-place_of-place-requires c =
-    let at = goal.at.place_of-place-requires c in
-    let room = room_is at.After-smaller-room in
-    let fit' = fit at.Else-room-count room in
-    omega (arith, fits at.Else-room-kept fit' room)
 
 pub overflow_mul-place : goal.overflow_mul-place
 overflow_mul-place c =
     let at = goal.at.overflow_mul-place c in
-    let room = room_is at.After-smaller-room in
-    let fit' = fit at.Else-room-count room in
-    omega (arith, spaces at.After-place_of-place (fits at.Else-room-kept fit' room))
-
-pub overflow_mul-kept : goal.overflow_mul-kept
-overflow_mul-kept c =
-    let at = goal.at.overflow_mul-kept c in
-    let room = room_is at.After-smaller-room in
+    let room = room_is at.After-min-room in
     let fit' = fit at.Else-room-count room in
     omega (arith, spaces at.After-place_of-place (fits at.Else-room-kept fit' room))
 
 pub overflow_mul-place-2 : goal.overflow_mul-place-2
 overflow_mul-place-2 c =
     let at = goal.at.overflow_mul-place-2 c in
-    let room = room_is at.After-smaller-room in
-    let fit' = fit at.Else-room-count room in
-    omega (arith, spaces at.After-place_of-place (fits at.Else-room-kept fit' room))
-
-pub overflow_mul-kept-2 : goal.overflow_mul-kept-2
-overflow_mul-kept-2 c =
-    let at = goal.at.overflow_mul-kept-2 c in
-    let room = room_is at.After-smaller-room in
+    let room = room_is at.After-min-room in
     let fit' = fit at.Else-room-count room in
     omega (arith, spaces at.After-place_of-place (fits at.Else-room-kept fit' room))
 
 pub returns : goal.returns
 returns c =
     let at = goal.at.returns c in
-    let room = room_is at.After-smaller-room in
+    let room = room_is at.After-min-room in
     let fit' = fit at.Else-room-count room in
     let placed = c.place_of-place.ensures in
-    rw (c.insert_costs.ensures, c.insert_rows.ensures, placed)
+    rw (c.insert.ensures, c.insert-2.ensures, placed)
     (enter_rows fit' c.close_up-kept.ensures (unmet at.Else-meets) (rw room at c.if-room-kept.false))

@@ -10,6 +10,6 @@ pub returns-then-second-gt0 : goal.returns-then-second-gt0
 unfolding place_by
 returns-then-second-gt0 c = simp (le-ltb _ _ c.if-first-gt0.false, lt-ltb _ _ c.if-second-gt0.true)
 
-pub returns : goal.returns
+pub returns-else-second-gt0 : goal.returns-else-second-gt0
 unfolding place_by
-returns c = simp (le-ltb _ _ c.if-first-gt0.false, le-ltb _ _ c.if-second-gt0.false)
+returns-else-second-gt0 c = simp (le-ltb _ _ c.if-first-gt0.false, le-ltb _ _ c.if-second-gt0.false)

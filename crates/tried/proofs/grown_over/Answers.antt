@@ -10,5 +10,5 @@ returns c =
     let plant = at.0 ∙ c.plant.ensures in
     let alone = c.only_drawn.ensures in (
       c.grown_with.ensures.0 ∙ plant,
-      c.grown_with.ensures.1 ∙ (rw (alone, c.fresh_after-fresh.ensures, c.nodes.ensures, c.width.ensures, at.1, plant)),
+      c.grown_with.ensures.1 ∙ (rw (alone, c.empty-alone.ensures, c.fresh_after-fresh.ensures, c.nodes.ensures, c.width.ensures, at.1, plant)),
     )

@@ -1,4 +1,4 @@
--- The loop's invariant: check 15 comes to what it comes to from row r on. Its measure: the rows that are left.
+-- The loop's invariant: check 15 comes to what it comes to from row r on.
 use mathlib.Core.Path.{◌≡◌}
 use Prim.Native.Nat.{◌-◌}
 use Rattle.lists.specs.Lists.{all, range}
@@ -7,7 +7,4 @@ use Rattle.tried.proofs.Laws.{kept_at}
 use Rattle.tried.proofs.kept.Given as goal
 
 abbrev pub invariant-loop-r : goal.invariant-loop-r
-invariant-loop-r l = kept_by l.chart l.drawn ≡ all (kept_at l.chart l.drawn) (range l.r (l.count - l.r))
-
-abbrev pub decreases-loop-r : goal.decreases-loop-r
-decreases-loop-r l = l.count - l.r
+invariant-loop-r l = kept_by l.chart.words l.drawn ≡ all (kept_at l.chart.words l.drawn) (range l.r (l.r-end - l.r))

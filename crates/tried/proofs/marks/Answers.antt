@@ -1,23 +1,18 @@
-use mathlib.Core.Path.{◌∙◌}
-use native.Mathlib.Omega.{arith}
-use lib.Seq.{take_all}
+use mathlib.Core.Path.{◌∙◌, ap}
+use mathlib.Core.Bool.{Bool, true}
+use mathlib.Core.List.{List}
+use lib.ListN.{get_or, set}
 use Rattle.tried.proofs.Laws.{marks_next, marks_skip, marks_start}
-use borrow.Author.Rules.{rules}
 use Rattle.tried.proofs.marks.Goals as goal
+use Rattle.tried.proofs.marks.Goals.{else-row-lt256, then-row-lt256}
 
-pub loop-i-init : goal.loop-i-init
-loop-i-init c = (search rules, marks_start)
+pub loop-row-init : goal.loop-row-init
+loop-row-init c = marks_start
 
-pub overflow_cast-r : goal.overflow_cast-r
-overflow_cast-r c = omega (arith, c.shared_slice_known-1.given c.loop-i.i)
-
-pub loop-i-preserved-then-r-lt256 : goal.loop-i-preserved-then-r-lt256
-loop-i-preserved-then-r-lt256 c =
-    (search rules, (rw c.loop-i.invariant.1) ∙ marks_next _ _ c.loop-i-test.true c.if-r-lt256.true)
-
-pub loop-i-preserved : goal.loop-i-preserved
-loop-i-preserved c =
-    (search rules, c.loop-i.invariant.1 ∙ marks_skip _ _ c.loop-i-test.true c.if-r-lt256.false)
-
-pub returns : goal.returns
-returns c = c.loop-i.invariant.1 ∙ (rw (take_all _ _ c.loop-i-test.false))
+pub loop-row-preserved : goal.loop-row-preserved
+loop-row-preserved c =
+    let row = get_or c.args.rows.now c.loop-row.row-index 0 in
+    elim c.if-row-lt256.branch [
+      | then-row-lt256 w ↦ w.drawn-is ∙ ap (λ (drawn : List Bool). set drawn row true) c.loop-row.invariant ∙ marks_next _ _ c.loop-row-test.true w.if-row-lt256.true
+      | else-row-lt256 w ↦ w.drawn-is ∙ c.loop-row.invariant ∙ marks_skip _ _ c.loop-row-test.true w.if-row-lt256.false
+    ]

@@ -1,40 +1,26 @@
--- The criterion's byte names the rule of cost, arm by arm.
-use mathlib.Core.Path.{◌≡◌}
-use native.Mathlib.Omega.{arith}
-use borrow.Author.Tests.{ne_eqb}
-use Rattle.network_file.specs.File.{kind_of}
-use Rattle.paths.specs.Path.{rows_in}
-use Rattle.vector.specs.Vector.{cost_byte, criterion_of}
-use Rattle.vector.proofs.Laws.{criterion_byte, criterion_none}
+-- The kind that the criterion's byte names says the rule of cost, arm by arm.
+use mathlib.Core.Path.{◌∙◌}
+use Rattle.std.proofs.Common.{rules}
+use Rattle.vector.proofs.Laws.{criterion_named, criterion_none}
 use Rattle.vector.proofs.criterion_cost.Goals as goal
-use Rattle.vector.proofs.criterion_cost.Goals.{After-byte_at-kind}
 
--- what the rule that the byte names comes to
-arm : (c : After-byte_at-kind)
-    → let a = c.args in
-    cost_byte (kind_of c.byte_at-kind.result) a.file.now a.criterion (rows_in a.path) ≡ criterion_of a.file.now a.criterion (rows_in a.path)
-arm c = criterion_byte _ _ _ c.header_of-header.ensures c.if-criterion-header.true c.byte_at-kind.ensures
+pub returns-then-header_of-criterion : goal.returns-then-header_of-criterion
+returns-then-header_of-criterion c = criterion_none _ _ _ c.header_of.ensures c.if-header_of-criterion.true
 
-pub returns-in-0 : goal.returns-in-0
-unfolding kind_of
-returns-in-0 c = let rule = rw c.in-0.is at (arm (goal.at.returns-in-0 c).After-byte_at-kind) in cc
+pub returns-in-Ok-Added : goal.returns-in-Ok-Added
+returns-in-Ok-Added c =
+    (search rules)
+    ∙ criterion_named _ _ _ c.header_of.ensures c.if-header_of-criterion.false c.at.ensures (rw c.in-Ok-Added.field-0-is at c.in-Ok-Added.ensures)
 
-pub returns-in-1 : goal.returns-in-1
-unfolding kind_of
-returns-in-1 c = let rule = rw c.in-1.is at (arm (goal.at.returns-in-1 c).After-byte_at-kind) in cc
+pub returns-in-Ok-Worst : goal.returns-in-Ok-Worst
+returns-in-Ok-Worst c =
+    (search rules)
+    ∙ criterion_named _ _ _ c.header_of.ensures c.if-header_of-criterion.false c.at.ensures (rw c.in-Ok-Worst.field-0-is at c.in-Ok-Worst.ensures)
 
-pub returns-in-2 : goal.returns-in-2
-unfolding kind_of
-returns-in-2 c = let rule = rw c.in-2.is at (arm (goal.at.returns-in-2 c).After-byte_at-kind) in cc
+pub returns-in-Ok-Closing : goal.returns-in-Ok-Closing
+returns-in-Ok-Closing c =
+    (search rules)
+    ∙ criterion_named _ _ _ c.header_of.ensures c.if-header_of-criterion.false c.at.ensures (rw c.in-Ok-Closing.field-0-is at c.in-Ok-Closing.ensures)
 
-pub returns-in-3-to-255 : goal.returns-in-3-to-255
-unfolding kind_of
-returns-in-3-to-255 c =
-    let kind = c.byte_at-kind.result in
-    let added : kind ≡ 0 → ⊥ = λ e. omega arith in
-    let worst : kind ≡ 1 → ⊥ = λ e. omega arith in
-    let closing : kind ≡ 2 → ⊥ = λ e. omega arith in
-    rw (ne_eqb _ _ added, ne_eqb _ _ worst, ne_eqb _ _ closing) at (arm (goal.at.returns-in-3-to-255 c).After-byte_at-kind)
-
-pub returns-else-criterion-header : goal.returns-else-criterion-header
-returns-else-criterion-header c = criterion_none _ _ _ c.header_of-header.ensures c.if-criterion-header.false
+pub returns-in-Err : goal.returns-in-Err
+returns-in-Err c = criterion_named _ _ _ c.header_of.ensures c.if-header_of-criterion.false c.at.ensures c.in-Err.ensures.0

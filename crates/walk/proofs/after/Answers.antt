@@ -1,15 +1,16 @@
-use mathlib.Core.Path.{◌∙◌, ◌≡◌, ap, refl, sym}
+use mathlib.Core.Path.{◌∙◌, ◌≡◌, ap, sym}
 use Prim.Native.Nat.{◌-◌, ℕ}
 use native.Mathlib.Omega.{arith}
 use lib.Bits.{bit_or}
 use lib.ListN.{length, length-take}
+use Rattle.std.proofs.lemmas.Option.{IfSome_then}
 use Rattle.paths.proofs.Laws.{keys_length}
 use Rattle.paths.specs.Path.{keys_of, plant_of}
 use Rattle.search.specs.Search.{or_else}
-use Rattle.walk.specs.Walk.{after_from, after_of, next_of, path_or}
-use Rattle.walk.proofs.Laws.{after_back, after_over, after_start, next_keys, next_none, next_some}
+use Rattle.walk.specs.Walk.{after_from, after_of, next_of}
+use Rattle.walk.proofs.Laws.{after_back, after_over, after_start, next_none, next_some}
 use Rattle.walk.proofs.after.Goals as goal
-use Rattle.walk.proofs.after.Goals.{After-skip-next, else-i-width, then-i-width}
+use Rattle.walk.proofs.after.Goals.{After-skip-next}
 
 pub loop-i-init : goal.loop-i-init
 loop-i-init c =
@@ -23,24 +24,23 @@ loop-i-init c =
 -- the whole answer, at the step that is asked
 asked : (c : After-skip-next) →
     let a = c.args in
-    after_of a.chart.now (plant_of a.path) (keys_of a.path) a.len
-    ≡ or_else (next_of c.skip-next.result) (after_from a.chart.now (plant_of a.path) (c.loop-i.i - 1) (bit_or c.loop-i.fresh c.bit-fresh.result) (keys_of a.path))
+    after_of a.chart.now.words (plant_of a.path) (keys_of a.path) a.len
+    ≡ or_else (next_of c.skip-next.result) (after_from a.chart.now.words (plant_of a.path) (c.loop-i.i - 1) (bit_or c.loop-i.fresh c.bit-fresh.result) (keys_of a.path))
 asked c =
     let part = c.shortened.ensures in
-    let left : c.if-i-width.steps ≡ c.width-width.result - (c.loop-i.i - 1) = elim c.if-i-width.branch [ then-i-width w ↦ omega arith | else-i-width w ↦ omega arith ] in
     rw (c.skip-next.ensures.1, part.0, c.bit-fresh.ensures)
     (c.loop-i.invariant ∙ after_back _ _ _ _ _ _ _ _ _ _ (omega (arith, c.loop-i-test.true)) c.pivot_at.ensures c.node_at.ensures c.row_at.ensures
-    (left ∙ ap (λ (w : ℕ). w - (c.loop-i.i - 1)) c.width-width.ensures) part.1)
+    (c.saturating_sub.ensures ∙ ap (λ (w : ℕ). w - (c.loop-i.i - 1)) c.width-width.ensures) part.1)
 
-pub returns-then-next : goal.returns-then-next
-returns-then-next c =
-    let found = next_some _ _ c.if-next.true ∙ sym (asked (goal.at.returns-then-next c).After-skip-next) in
-    (c.skip-next.ensures.0 ∙ c.shortened.ensures.0, found, ap (path_or _) (next_keys _ c.if-next.true ∙ found))
+pub returns-then-is_some : goal.returns-then-is_some
+returns-then-is_some c =
+    let at = goal.at.returns-then-is_some c in (
+      IfSome_then c.skip-next.result c.skip-next.ensures.0 (λ next e. e ∙ c.shortened.ensures.0),
+      next_some _ _ (sym c.is_some.ensures ∙ c.if-is_some.true) ∙ sym (asked at.After-skip-next),
+    )
 
 pub loop-i-preserved : goal.loop-i-preserved
-loop-i-preserved c = asked (goal.at.loop-i-preserved c).After-skip-next ∙ next_none _ _ c.if-next.false
+loop-i-preserved c = asked (goal.at.loop-i-preserved c).After-skip-next ∙ next_none _ _ (sym c.is_some.ensures ∙ c.if-is_some.false)
 
 pub returns : goal.returns
-returns c =
-    let over = sym (c.loop-i.invariant ∙ after_over _ _ _ _ _ (omega (arith, c.loop-i-test.false))) in
-    (refl, over, ap (path_or _) over)
+returns c = (tt, sym (c.loop-i.invariant ∙ after_over _ _ _ _ _ (omega (arith, c.loop-i-test.false))))

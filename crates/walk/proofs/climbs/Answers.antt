@@ -19,7 +19,7 @@ here c =
     let pivots = c.well_formed.1.0.1.1.1.1.0.1.0.1 in
     let p = c.args.path in
     let i = c.loop-i.i in
-    step_at_lem p nodes rows pivots i (omega (arith, c.loop-i-test.true, c.length-n.ensures))
+    step_at_lem p nodes rows pivots i (omega (arith, c.length-i-end.ensures))
 
 pub returns-then-i-at : goal.returns-then-i-at
 returns-then-i-at c =
@@ -42,5 +42,5 @@ loop-i-preserved c =
 pub returns : goal.returns
 returns c =
     let p = c.args.path in
-    let over : length (keys_of p) ≤ c.loop-i.i = omega (arith, keys_most p, c.loop-i-test.false, c.length-n.ensures) in
+    let over : length (keys_of p) ≤ c.loop-i.i = omega (arith, keys_most p, c.loop-i-test.false, c.length-i-end.ensures) in
     sym (c.loop-i.invariant ∙ climbs_over _ _ _ _ _ _ _ over)

@@ -1,56 +1,33 @@
--- `walked::front`: Open's checks and 12 by `listed`, then 11, and the passes over the chart.
-use mathlib.Core.Path.{◌∙◌, ap, subst, sym}
+-- `walked::front`: Front's checks, and the passes over the chart that they made.
+use mathlib.Core.Path.{subst}
 use mathlib.Core.List.{List}
 use Prim.Native.Nat.{ℕ}
-use native.Mathlib.Omega.{arith}
-use Rattle.chart.proofs.Made.{blank}
-use Rattle.fields.specs.Fields.{sizes_in}
-use Rattle.fronted.specs.Answers.{refused_by}
-use Rattle.fronted.proofs.Calls.{criteria_some, front_costs, front_filled, front_stops, front_witnesses, lent_holds, nodes_several}
-use Rattle.listed.proofs.Answers.{Listing, listing, refused_by_lem}
-use Rattle.network.specs.Answers.{opened_of}
-use Rattle.network_file.specs.File.{Sizes}
+use Rattle.std.proofs.Common.{rules}
+use Rattle.chart.specs.Chart.{width_in}
+use Rattle.listed.proofs.Answers.{Listing}
+use Rattle.network_file.specs.File.{Sizes, sizes_of}
+use Rattle.fronted.specs.Filled.{Holding, Lent}
+use Rattle.fronted.specs.declared.Room.{Room}
+use Rattle.fronted.proofs.Calls.{front_filled, front_refused}
 use Rattle.walked.specs.Passes.{Laid}
 use Rattle.walked.proofs.front.Goals as goal
-use Rattle.walked.proofs.front.Goals.{In-Header}
-
-pub returns-in_default : goal.returns-in_default
-returns-in_default c =
-    let a = c.args in
-    let told = c.in_default.is in
-    rw (c.refused.ensures ∙ ap (λ o. refused_by (opened_of o)) told)
-    (front_stops a.file.now a.costs.now a.witnesses.now _ (refused_by_lem _ _ (sym (c.listed-opened.ensures.0 blank) ∙ ap opened_of told)))
-
--- what `listed` tells of the file and of the chart
-lists : (c : In-Header) → Listing c.args.file.now (sizes_in c.in-Header.header) c.listed-opened.new.chart
-lists c = listing _ c.listed-opened.result _ blank c.listed-opened.ensures (ap opened_of c.in-Header.is)
-
-pub returns-then-costs-k : goal.returns-then-costs-k
-returns-then-costs-k c = front_costs _ _ _ (lists (goal.at.returns-then-costs-k c).In-Header).lists c.if-costs-k.true
-
-pub overflow_sub-width : goal.overflow_sub-width
-overflow_sub-width c = omega (arith, nodes_several (lists (goal.at.overflow_sub-width c).In-Header).lists)
-
-pub returns-then-witnesses-width : goal.returns-then-witnesses-width
-returns-then-witnesses-width c = front_witnesses _ _ _ (lists (goal.at.returns-then-witnesses-width c).In-Header).lists c.if-costs-k.false c.if-witnesses-width.true
-
-pub nonzero_div-costs : goal.nonzero_div-costs
-nonzero_div-costs c = omega (arith, criteria_some (lists (goal.at.nonzero_div-costs c).In-Header).lists)
-
-pub nonzero_div-witnesses : goal.nonzero_div-witnesses
-nonzero_div-witnesses c = omega (arith, nodes_several (lists (goal.at.nonzero_div-witnesses c).In-Header).lists)
 
 -- the sizes are the file's
-laid : {f c : List ℕ} {h : Sizes} → Listing f h c → Laid f c
-laid {f} {c} l = subst (λ (s : Sizes). Listing f s c) l.lists.sizes l
-
-pub passes-requires : goal.passes-requires
-passes-requires c =
-    let l = lists (goal.at.passes-requires c).In-Header in (
-      laid l,
-      rw (l.width, ← (ap (λ (s : Sizes). s.k) l.lists.sizes)) (lent_holds l.lists _ _ _ c.smaller-capacity.ensures),
+laid : {f costs witnesses : List ℕ} {room : Room} → Lent f costs witnesses room
+    → Laid f room.chart.words × Holding room.capacity (sizes_of f).k (width_in room.chart.words) costs witnesses
+laid {f} {costs} {witnesses} {room} lent =
+    let sizes = lent.listing.lists.sizes in (
+      subst (λ (s : Sizes). Listing f s room.chart.words) sizes lent.listing,
+      subst (λ (s : Sizes). Holding room.capacity s.k (width_in room.chart.words) costs witnesses) sizes lent.holding,
     )
 
+pub passes-requires : goal.passes-requires
+passes-requires c = laid c.in_ok-room.ensures
+
+pub returns-in_err-room : goal.returns-in_err-room
+returns-in_err-room c =
+    let refused = front_refused _ _ _ _ c.in_err-room.ensures in
+    search (rules, refused)
+
 pub returns : goal.returns
-returns c =
-    front_filled _ _ _ (lists (goal.at.returns c).In-Header).lists c.if-costs-k.false c.if-witnesses-width.false _ c.smaller-capacity.ensures _ _ _ c.passes.ensures
+returns c = front_filled _ _ _ c.in_ok-room.ensures c.passes.ensures

@@ -8,8 +8,8 @@ use Rattle.walked.specs.Passes.{scratch_rows}
 use Rattle.walked.proofs.Turns.{Turn}
 use Rattle.walked.proofs.pass.Given as goal
 
-abbrev pub invariant-loop-path : goal.invariant-loop-path
-invariant-loop-path l = Turn l.file l.chart scratch_rows l.count l.initial.costs l.initial.witnesses l.scratch l.path l.costs l.witnesses
+abbrev pub invariant-loop-next : goal.invariant-loop-next
+invariant-loop-next l = Turn l.file l.chart.words scratch_rows l.count l.initial.costs l.initial.witnesses l.scratch l.path l.costs l.witnesses
 
-abbrev pub decreases-loop-path : goal.decreases-loop-path
-decreases-loop-path l = left (graph_in l.chart) (layouts_in l.file) (rows_in l.path)
+abbrev pub decreases-loop-next : goal.decreases-loop-next
+decreases-loop-next l = left (graph_in l.chart.words) (layouts_in l.file) (rows_in l.path)

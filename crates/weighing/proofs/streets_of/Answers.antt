@@ -1,5 +1,5 @@
 -- Arm by arm the tables of streets give a row its rate: what it costs, nothing, or its share of what is not paid yet.
-use mathlib.Core.Path.{◌∙◌, ◌≡◌, ap, ap₂, refl}
+use mathlib.Core.Path.{◌∙◌, ◌≡◌, ap, ap₂, refl, sym}
 use mathlib.Core.List.{List, map}
 use Prim.Native.Nat.{◌*◌, ◌-◌, ◌<◌, ℕ}
 use native.Mathlib.Nat.{div-one, div-zero}
@@ -9,7 +9,8 @@ use lib.ListN.{get_or, length}
 use borrow.Author.Tests.{eq-eqb, ne_eqb}
 use Rattle.lists.specs.Lists.{both, filter_b, range}
 use Rattle.lists.proofs.Ranges.{get_or_map_range}
-use Rattle.chosen.specs.Chosen.{rows_of, rows_on}
+use Rattle.chosen.specs.Chosen.{rows_of}
+use Rattle.tally.specs.Kinds.{numbers_of}
 use Rattle.tally.specs.Tally.{cost_in, day_in, days_in, lead_in}
 use Rattle.tally.proofs.Tables.{days_at}
 use Rattle.weighing.specs.Weighing.{rate_in, share_in}
@@ -50,21 +51,21 @@ module _ (kind : ℕ) (costs leads : List ℕ) (c : ℕ) (inc us : List ℕ) (da
       day : get_or days lead 0 ≡ day_in costs leads c inc lead
       day = ap (λ (l : List ℕ). get_or l lead 0) paid ∙ days_at costs leads c inc lead (low q)
 
-pub returns-in-0 : goal.returns-in-0
+pub returns-in-Added : goal.returns-in-Added
 unfolding range
-returns-in-0 c =
-    let at = c.args in
-    plain at.kind at.costs.now at.leads.now at.c (rows_of at.inc) (rows_on at.flags.now) _ _ (λ q. omega (arith, c.type_inv.leads q)) c.in-0.is refl refl
+returns-in-Added c =
+    let w = c.args.criteria in
+    plain _ w.costs.now w.leads.now c.args.c (rows_of c.args.inc) c.args.usable.now _ _ c.are_rows.ensures (sym c.in-Added.ensures) refl refl
 
-pub returns-in-1 : goal.returns-in-1
+pub returns-in-Worst : goal.returns-in-Worst
 unfolding range
-returns-in-1 c =
-    let at = c.args in
-    nothing at.kind at.costs.now at.leads.now at.c (rows_of at.inc) (rows_on at.flags.now) (map (λ i. 0) (range 0 256)) _
-    (λ q. omega (arith, c.type_inv.leads q)) c.in-1.is refl
+returns-in-Worst c =
+    let w = c.args.criteria in
+    nothing _ w.costs.now w.leads.now c.args.c (rows_of c.args.inc) c.args.usable.now (map (λ i. 0) (range 0 256)) _ c.are_rows.ensures (sym c.in-Worst.ensures) refl
 
-pub returns-in-2-to-255 : goal.returns-in-2-to-255
-returns-in-2-to-255 c =
-    let at = c.args in
-    shares at.kind at.costs.now at.leads.now at.c (rows_of at.inc) (rows_on at.flags.now) _ c.sharers_of.result
-    (λ q. omega (arith, c.type_inv.leads q)) (omega arith) (omega arith) c.paid_of-paid.ensures.1 c.sharers_of.ensures
+pub returns-in-Closing : goal.returns-in-Closing
+returns-in-Closing c =
+    let w = c.args.criteria in
+    let kind = get_or (numbers_of w.kinds) c.args.c 0 in
+    shares kind w.costs.now w.leads.now c.args.c (rows_of c.args.inc) c.args.usable.now _ c.sharers_of.result
+    c.are_rows.ensures (omega (arith, c.in-Closing.ensures)) (omega (arith, c.in-Closing.ensures)) c.paid_of.ensures.days c.sharers_of.ensures

@@ -1,5 +1,7 @@
-use Rattle.words.proofs.Words.{lowest_byte}
+use mathlib.Core.Path.{refl}
+use Rattle.words.specs.Words.{lowest}
 use Rattle.words.proofs.lowest.Goals as goal
 
 pub returns : goal.returns
-returns c = lowest_byte _
+unfolding lowest
+returns c = refl

@@ -1,15 +1,12 @@
 use mathlib.Core.Path.{ap, sym}
 use native.Mathlib.Omega.{arith}
-use Rattle.paths.proofs.Laws.{key_past, node_at}
+use borrow.Author.Rules.{rules}
 use Rattle.graph.specs.Paths.{Key}
+use Rattle.paths.proofs.Laws.{key_past, node_at}
 use Rattle.paths.proofs.Path.node_at.Goals as goal
 
-pub returns-then-i-n : goal.returns-then-i-n
-returns-then-i-n c =
-    let rows = c.well_formed.0.1.1.0.1.0.1 in
-    let nodes = c.well_formed.0.1.1.1.0.1.0.1 in
-    let pivots = c.well_formed.0.1.1.1.1.0.1.0.1 in
-    node_at c.args.self nodes rows pivots c.args.i (omega arith)
+pub returns-then-i-length : goal.returns-then-i-length
+returns-then-i-length c = node_at c.args.self (search rules) (search rules) (search rules) c.args.i (omega arith)
 
-pub returns-else-i-n : goal.returns-else-i-n
-returns-else-i-n c = ap (λ (k : Key). k.node) (sym (key_past c.args.self c.args.i (omega arith)))
+pub returns-else-i-length : goal.returns-else-i-length
+returns-else-i-length c = ap (λ (k : Key). k.node) (sym (key_past c.args.self c.args.i (omega arith)))

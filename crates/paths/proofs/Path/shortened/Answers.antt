@@ -1,10 +1,7 @@
-use mathlib.Core.Path.{refl}
-use native.Mathlib.Omega.{arith}
-use Rattle.paths.proofs.Laws.{shortened_is, whole_is}
+use mathlib.Core.Path.{◌∙◌, ap, refl}
+use Prim.Native.Nat.{min, ℕ}
+use Rattle.paths.proofs.Laws.{shortened_is}
 use Rattle.paths.proofs.Path.shortened.Goals as goal
 
-pub returns-then-steps-n : goal.returns-then-steps-n
-returns-then-steps-n c = (refl, shortened_is c.args.self c.args.steps (omega arith))
-
-pub returns-else-steps-n : goal.returns-else-steps-n
-returns-else-steps-n c = (refl, whole_is c.args.self c.args.steps (omega arith))
+pub returns : goal.returns
+returns c = (refl, shortened_is c.args.self c.args.steps _ (c.min.ensures ∙ ap (λ (n : ℕ). min n c.args.steps) c.length.ensures))

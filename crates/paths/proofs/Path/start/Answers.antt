@@ -1,7 +1,7 @@
-use borrow.Author.Rules.{rules}
+use mathlib.Core.Path.{refl}
 use Rattle.paths.specs.Path.{keys_from, keys_of}
 use Rattle.paths.proofs.Path.start.Goals as goal
 
 pub returns : goal.returns
 unfolding keys_of keys_from
-returns c = search rules
+returns c = (refl, refl)

@@ -1,7 +1,0 @@
-use mathlib.Core.Path.{ap, sym}
-use Rattle.network.specs.Answers.{opened_of}
-use Rattle.reach.specs.Answers.{refused_by}
-use Rattle.reach.proofs.refused.Goals as goal
-
-pub returns-in-Refused : goal.returns-in-Refused
-returns-in-Refused c = sym (ap (λ o. refused_by (opened_of o)) c.in-Refused.is)

@@ -1,8 +1,0 @@
--- `weights::behind` meets its contract: a sum of held products, held, is the sum of the products held.
-use mathlib.Core.Path.{ap₂}
-use Rattle.counts.specs.Counting.{weigh}
-use Rattle.weights.proofs.Sums.{held_sum}
-use Rattle.weights.proofs.behind.Goals as goal
-
-pub returns : goal.returns
-returns c = ap₂ weigh (held_sum _ _ _ _ _ c.times.ensures c.times-2.ensures c.plus.ensures) c.times-3.ensures
