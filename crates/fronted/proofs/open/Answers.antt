@@ -4,10 +4,11 @@ use mathlib.Core.Bool.{◌&&◌}
 use Prim.Native.Nat.{◌-◌}
 use native.Mathlib.Omega.{arith}
 use lib.Dec.{leb}
-use lib.ListN.{length}
+use lib.ListN.{length, replicate}
 use borrow.Author.Tests.{le-leb, lt-leb}
 use Rattle.std.proofs.Common.{Ok, rules}
 use Rattle.chart.proofs.Made.{blank}
+use Rattle.chart.specs.Chart.{file_chart_on}
 use Rattle.fields.specs.Fields.{sizes_in}
 use Rattle.fronted.proofs.Calls.{capacity_read, criteria_some, front_met, front_short, front_stops, lent_holds, nodes_several}
 use Rattle.listed.proofs.Answers.{Listing, listing, refused_by_lem}
@@ -22,6 +23,10 @@ returns-in_err-header c =
 -- what `listed` tells of the file and of the chart
 lists : (c : In_ok-header) → Listing c.args.file.now (sizes_in c.in_ok-header.header) c.listed.new.chart.words
 lists c = listing _ (Ok c.in_ok-header.header) _ (rw c.empty-chart.ensures blank) c.in_ok-header.ensures refl
+
+-- the chart is made of an empty one
+made : (c : In_ok-header) → c.listed.new.chart.words ≡ file_chart_on c.args.file.now (replicate 1416 0)
+made c = rw c.empty-chart.ensures at (c.in_ok-header.ensures.1 (lists c).lists.met)
 
 pub overflow_sub-width : goal.overflow_sub-width
 overflow_sub-width c = omega (arith, nodes_several (lists (goal.at.overflow_sub-width c).In_ok-header).lists)
@@ -55,6 +60,7 @@ returns c =
     let read = c.min-capacity.ensures in
     record {
       met = front_met _ _ _ listing'.lists _ (asked at.After-check) c.in_ok-check.ensures;
+      made = made at.In_ok-header;
       listing = listing';
       capacity_is = capacity_read _ _ _ listing'.lists _ read;
       holding = rw listing'.width (lent_holds _ _ _ listing'.lists _ read);
