@@ -1,4 +1,5 @@
--- Where all fits, all is copied (`copied_all`); at the first places stands as much as fits (`copied_first`), or all of it (`copied_whole`).
+-- What the loop copies fits both tables (`room_least`, `copied_is`); where all fits, all is copied (`copied_all`); at the first places stands as much as fits
+-- (`copied_first`), or all of it (`copied_whole`).
 use mathlib.Core.Path.{◌∙◌, ◌≡◌, ap}
 use mathlib.Core.List.{List, ◌++◌}
 use Prim.Native.Nat.{◌+◌, ◌-◌, ◌≤◌, min, ℕ}
@@ -9,7 +10,15 @@ use lib.Seq.{paste, take_all}
 use Rattle.lists.proofs.Ascending.{take_min}
 use Rattle.copies.specs.Copies.{copied, room}
 
+pub room_least : (table at places n least m : ℕ) → least ≡ min n places → m ≡ min least (table - at) → (m ≡ room table at places n) × (m ≤ places) × (m ≤ table - at)
+unfolding room
+room_least table at places n least m e e' = (omega arith, omega arith, omega arith)
+
 module _ {A : Type 0} where
+  pub copied_is : (table : List A) (at : ℕ) (places : List A) (n m : ℕ) → m ≡ room (length table) at (length places) n → paste table at places m ≡ copied table at places n
+  unfolding copied
+  copied_is table at places n m e = ap (paste table at places) e
+
   pub copied_all : (table : List A) (at : ℕ) (places : List A) (n : ℕ) → at + n ≤ length table → n ≤ length places → copied table at places n ≡ paste table at places n
   unfolding copied room
   copied_all table at places n fits there =

@@ -11,7 +11,10 @@ pub fn copy<T: Copy>(table: &mut [T], at: usize, places: &[T], n: usize)
 {
     if at < table.len() {
         let m = n.min(places.len()).min(table.len() - at);
-        table[at..at + m].copy_from_slice(&places[..m]);
+        // By elements: a copy of the whole part would ask memmove of a C program that links the library.
+        for i in 0..m {
+            table[at + i] = places[i];
+        }
     }
 }
 
@@ -29,7 +32,10 @@ pub fn shift<T: Copy>(table: &mut [T], from: usize, to: usize, n: usize)
     ensures { table.new ≡ moved table.old from to n }
 {
     if within(table.len(), to, from, n) {
-        table.copy_within(from..from + n, to);
+        // By elements, as in `copy`, and from the first on: what is still to be moved lies behind what is written.
+        for i in 0..n {
+            table[to + i] = table[from + i];
+        }
     }
 }
 
@@ -39,7 +45,10 @@ pub fn insert<T: Copy>(table: &mut [T], at: usize, end: usize, row: &[T])
 {
     let k = row.len();
     if within(table.len(), at, end, k) {
-        table.copy_within(at..end, at + k);
-        table[at..at + k].copy_from_slice(row);
+        // By elements, as in `copy`, and from the last on: what is still to be moved lies before what is written.
+        for i in (at..end).rev() {
+            table[i + k] = table[i];
+        }
+        copy(table, at, row, k);
     }
 }

@@ -41,9 +41,10 @@ use Rattle.operations.proofs.Files.{formed, node_count_lem, open_formed_in}
 use Rattle.completions.specs.Boxes.{inside}
 use Rattle.chosen.specs.Chosen.{is_on, rows_on}
 use Rattle.chosen.proofs.Flags.{on_mem}
+use Rattle.fields.specs.declared.Kind as code
 use Rattle.fields.specs.declared.Kind.TheVariants.{Added, Closing, Worst}
 use Rattle.tally.specs.Kinds.{number_of, numbers_of}
-use Rattle.tally.specs.Tally.{cost_in, kind_of, lead_in}
+use Rattle.tally.specs.Tally.{cost_in, kind_of, lead_in, table_of}
 use Rattle.tally.proofs.Same.{Tabled}
 use Rattle.tally.proofs.Tables.{inside_take}
 use Rattle.find.specs.Find.{Tables, graph_in}
@@ -76,6 +77,21 @@ kinds_same : (k : ℕ) (l : List ℕ) → map kind_of (take k (numbers_of (map k
 kinds_same zero l = refl
 kinds_same (suc k) [] = refl
 kinds_same (suc k) (b ∷ l) = rw (kind_same b, kinds_same k l) refl
+
+-- four bytes, each taken for a kind
+pub four_kinds : (l : List ℕ) → length l ≡ 4 → {a b c d : code.Kind} → a ≡ kind_by (get_or l 0 0) → b ≡ kind_by (get_or l 1 0) → c ≡ kind_by (get_or l 2 0) → d ≡ kind_by (get_or l 3 0)
+    → (a ∷ b ∷ c ∷ d ∷ []) ≡ map kind_by l
+four_kinds [] h first second third fourth = absurd (omega arith)
+four_kinds (x ∷ []) h first second third fourth = absurd (omega arith)
+four_kinds (x ∷ y ∷ []) h first second third fourth = absurd (omega arith)
+four_kinds (x ∷ y ∷ z ∷ []) h first second third fourth = absurd (omega arith)
+four_kinds (x ∷ y ∷ z ∷ u ∷ []) h first second third fourth = rw (first, second, third, fourth) refl
+four_kinds (x ∷ y ∷ z ∷ u ∷ v ∷ l) h first second third fourth = absurd (omega arith)
+
+-- so the network of the bytes is that of the kinds
+pub table_same : (l : List ℕ) (k : ℕ) (costs leads : List ℕ) → table_of (numbers_of (map kind_by l)) k costs leads ≡ table_of l k costs leads
+unfolding table_of
+table_same l k costs leads = rw (kinds_same k l) refl
 
 module _ (f : List ℕ) where
   kinds_at : (c : ℕ) → c < 4 → get_or (kinds_in f) c 0 ≡ byte_at f (9 + c)

@@ -4,16 +4,17 @@ use Rattle.std.specs.Prelude.{Bool, None, Option, Some, false, not, true, ◌==�
 use Rattle.std.specs.List.{position, position_or_len}
 use Rattle.std.proofs.lemmas.Bool.{not-true}
 use Rattle.std.proofs.lemmas.Bool.Decides.{nat_tests}
-use Rattle.std.proofs.lemmas.List.{append-nil, get_or-append_right, get_or-drop, get_or-take, length-take-le, set-append_left, set-append_right}
+use Rattle.std.proofs.lemmas.List.{get_or-append_right, get_or-drop, get_or-take, length-take-le, set-append_left, set-append_right}
 use Rattle.std.proofs.lemmas.List.Quantifiers.{position-Some}
 use Rattle.std.proofs.lemmas.List.Sums.{prefix_len_passes}
 use mathlib.Core.Path.{◌∙◌, ◌≡◌, ap, refl, subst, sym}
-use mathlib.Core.List.{List, [], ◌++◌}
+use mathlib.Core.List.{List, ◌++◌}
 use Prim.Native.Nat.{◌*◌, ◌+◌, ◌-◌, ◌<◌, ◌≤◌, min, suc, ℕ}
 use native.Mathlib.Decide.{dec_lt, ℕ_discrete}
 use native.Mathlib.Omega.{arith}
-use lib.Seq.{set-get_or}
-use lib.ListN.{drop, drop_of_length-le, get_or, get_or-append, length, length-append, length-drop, length-take, set, take}
+use lib.Seq.{get_or-set_other, get_or-set_same, set-get_or}
+use lib.ListN.{drop, get_or, get_or-append, length, length-append, length-drop, length-take, set, take}
+use borrow.Author.Count.{below_more}
 use borrow.Author.Tests.{lt-ltb}
 use borrow.Rule.Slice.PartMut.{post_of, put_mid}
 use Rattle.counts.specs.Counting.{Weight}
@@ -176,20 +177,13 @@ module _ (ws : List code.Weight) (v «from» : ℕ) (r : Option ℕ) (l : «from
       none_merged _ (sym (test k (k - «from») u (omega arith))
       ∙ position_none (λ (w : code.Weight). not (w.merged == 0)) part (sym found ∙ e) (k - «from») (record { dropped = 0; merged = 0 }) (omega (arith, part_long)))
 
--- A level copied: the first n places are those of ws
-pub copied_part : (ws us xs : List code.Weight) (v : ℕ) → us ≡ take ((v + 1) * 32) ws → length us ≡ length (take ((v + 1) * 32) xs)
-    → v < 32 → Agree (matrix_in (us ++ post_of 0 ((v + 1) * 32) xs)) (matrix_in ws) (suc v)
-copied_part ws us xs v e l h i j p q =
-    ap weight_in (start ∙ ap (λ (z : List code.Weight). weight_at z (i * 32 + j)) e ∙ get_or-take ((v + 1) * 32) ws (i * 32 + j) _ (omega arith))
-  where
-    none_left : length us ≤ i * 32 + j → post_of 0 ((v + 1) * 32) xs ≡ []
-    none_left m = drop_of_length-le {A = code.Weight} (drop 0 xs) {i = (v + 1) * 32} (omega (arith, length-drop 0 xs, length-take ((v + 1) * 32) xs))
+-- A level copied place by place: the first i places are those of ws
+module _ (ws us : List code.Weight) (i : ℕ) (so : (k : ℕ) → k < i → weight_at us k ≡ weight_at ws k) where
+  pub one_copied : i < length us → (k : ℕ) → k < i + 1 → weight_at (set us i (weight_at ws i)) k ≡ weight_at ws k
+  one_copied h = below_more _ i (λ k l. get_or-set_other us i k _ _ (λ e. omega arith) ∙ so k l) (get_or-set_same us i _ _ h)
 
-    start : weight_at (us ++ post_of 0 ((v + 1) * 32) xs) (i * 32 + j) ≡ weight_at us (i * 32 + j)
-    start = elim (dec_lt (i * 32 + j) (length us)) [
-      | yes k ↦ get_or-append us (post_of 0 ((v + 1) * 32) xs) _ (i * 32 + j) k
-      | no k ↦ let none : post_of 0 ((v + 1) * 32) xs ≡ [] = none_left (omega arith) in rw (none, append-nil) refl
-    ]
+  pub all_copied : (v : ℕ) → v < 32 → (v + 1) * 32 ≤ i → Agree (matrix_in us) (matrix_in ws) (suc v)
+  all_copied v h l a b p q = ap weight_in (so (a * 32 + b) (omega arith))
 
 -- A link made absent
 pub absent_set : (ws : List code.Weight) (v x : ℕ) → 1024 ≤ length ws → x < v → v < 32

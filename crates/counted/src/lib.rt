@@ -61,7 +61,10 @@ fn copied(links: &Links, next: &mut Links, v: usize)
     ensures { Agree (matrix_in next.new.weights) (matrix_in links.now.weights) (suc v) }
 {
     let n = (v + 1) * 32;
-    next.weights[..n].copy_from_slice(&links.weights[..n]);
+    // By elements: a copy of the whole part would ask memmove of a C program that links the library.
+    for i in 0..n {
+        next.weights[i] = links.weights[i];
+    }
 }
 
 // Node v's links moved to x.

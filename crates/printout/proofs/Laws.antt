@@ -1,17 +1,16 @@
 -- Bytes put into a buffer: what is put in two parts, one behind the other, is put at once (`behind`); what fits stands there whole (`put_whole`);
--- and where a part has been copied (`copied_put`).
+-- and where the loop ends that puts them byte by byte (`Putting`, `all_put`).
 use mathlib.Core.Path.{◌∙◌, ◌≡◌, ap, refl, sym}
 use mathlib.Core.Bool.{Bool, false, true}
 use mathlib.Core.List.{List, [], ◌++◌, append_assoc}
 use Prim.Native.Nat.{◌+◌, ◌<◌, ◌≤◌, ℕ}
 use native.Mathlib.Nat.{add_assoc, add-zero, zero-add}
+use native.Mathlib.Numerals.{add-one}
 use native.Mathlib.Omega.{arith}
 use borrow.Author.Tests.{leb-false, leb-true}
 use lib.Dec.{leb}
-use lib.ListN.{drop, length, length-append, length-drop, length-take, take}
-use borrow.Rule.Slice.PartMut.{put_mid}
-use Rattle.std.proofs.lemmas.Slice.{put_mid-paste}
-use lib.Seq.{drop-drop, drop-paste, length-paste, paste, paste-zero, take-append-add, take-append-le, take_all, take-length, take-paste}
+use lib.ListN.{drop, get_or, length, length-append, length-drop, length-take, set, take}
+use lib.Seq.{drop-drop, drop-paste, length-paste, paste, paste-suc, paste-zero, take-append-add, take-append-le, take-length, take-paste}
 use Rattle.printout.specs.Text.{Filled, filled, fitting, put}
 
 -- where nothing fits, the buffer stays as it is
@@ -72,17 +71,26 @@ put_whole out bytes fits =
     let whole : fitting out 0 bytes ≡ length bytes = omega arith in
     rw (whole, zero-add (length bytes), take-length bytes)
 
--- the bytes that fit stand in the part that they were copied to
-pub copied_put : (out : List ℕ) (at : ℕ) (bytes : List ℕ) {n k : ℕ} {part new : List ℕ} → n ≡ fitting out at bytes → k ≡ n → part ≡ take n bytes → new ≡ put_mid at k out part
-    → filled new (at + n) ≡ put out at bytes
-unfolding put
-copied_put out at bytes {n} {k} {part} {new} fit long copied is =
-    let same : take n (take n bytes) ≡ take n bytes = take_all n (take n bytes) (simp length-take (omega arith)) in
-    let pasted : new ≡ paste out at bytes n = is ∙ put_mid-paste at k out part (take n bytes) n copied (sym long) (simp length-take (omega arith)) ∙ rw same in
-    rw (pasted, fit)
+-- the first i bytes stand in the buffer, up to the place
+pub record Putting (out : List ℕ) (at : ℕ) (bytes new : List ℕ) (place i : ℕ) : Type 0 where
+  pub few : i ≤ fitting out at bytes
+  pub there : place ≡ at + i
+  pub pasted : new ≡ paste out at bytes i
 
--- and where nothing fits nothing is copied
-pub none_put : (out : List ℕ) (at : ℕ) (bytes : List ℕ) {n : ℕ} {new : List ℕ} → n ≡ fitting out at bytes → n ≤ 0 → new ≡ out → filled new (at + n) ≡ put out at bytes
-none_put out at bytes {n} {new} fit none is =
-    let place : at + n ≡ at = omega arith in
-    rw (is, place) (put_still out at bytes (omega arith))
+module _ {out : List ℕ} {at : ℕ} {bytes : List ℕ} where
+  pub putting_start : Putting out at bytes out at 0
+  putting_start = record { few = omega arith; there = omega arith; pasted = paste-zero out at bytes }
+
+  pub putting_more : {new : List ℕ} {place i : ℕ} → Putting out at bytes new place i → (x : ℕ) → i < fitting out at bytes → x ≡ get_or bytes i 0
+      → Putting out at bytes (set new place x) (place + 1) (i + 1)
+  putting_more {new} {place} {i} p x more read = record {
+    few = omega arith;
+    there = omega (arith, p.there);
+    pasted = rw (p.there, p.pasted, read, add-one) (paste-suc out at bytes i 0 (omega arith) (omega arith));
+  }
+
+  pub all_put : {new : List ℕ} {place i : ℕ} → Putting out at bytes new place i → fitting out at bytes ≤ i → filled new place ≡ put out at bytes
+  unfolding put
+  all_put {new} {place} {i} p all =
+      let end : i ≡ fitting out at bytes = omega (arith, p.few) in
+      rw (p.there, p.pasted, end)

@@ -37,11 +37,16 @@ impl AsNumber for u32 {
 pub fn text(out: &mut [u8], at: usize, bytes: &[u8]) -> usize
     ensures { filled out.new result ≡ put out.old at bytes.now }
 {
-    let n = bytes.len().min(out.len().saturating_sub(at));
-    if n > 0 {
-        out[at..at + n].copy_from_slice(&bytes[..n]);
+    // By elements: a copy of the whole part would ask memmove of a C program that links the library, and be a call for each space and number.
+    let mut place = at;
+    for byte in bytes {
+        if place >= out.len() {
+            break;
+        }
+        out[place] = *byte;
+        place += 1;
     }
-    at + n
+    place
 }
 
 /// A line feed.

@@ -1,18 +1,48 @@
--- Whether some of a list's rows joins u and v, as a loop over the rows meets it (`pair_next`, `pair_stop`, `pair_end`).
-use Rattle.std.proofs.Common.{◌∙◌, ◌≡◌, sym, false, true, ◌+◌, ◌<◌, ◌≤◌, ℕ, drop, length}
-use Rattle.lists.proofs.Drops.{any_end, any_next, any_stop}
-use Rattle.costs.specs.Network.{Network, no_row, row_at}
+-- A file that is accepted is as long as its sizes say (`fitting`), so that its rows are pieces of it: whether some row joins u and v, by the pieces (`pair_pieces`),
+-- and what is asked of a piece (`pair_read`).
+use mathlib.Core.Path.{◌∙◌, ◌≡◌, ap, refl, sym}
+use mathlib.Core.Bool.{Bool, ◌&&◌, ◌||◌, false, not, true}
+use mathlib.Core.List.{List, [], ◌∷◌}
+use mathlib.Core.Option.{none}
+use Prim.Native.Nat.{◌+◌, ℕ}
+use native.Mathlib.Omega.{arith}
+use lib.Dec.{eqb}
+use Rattle.checks.specs.Checks.{first_unmet}
+use Rattle.lists.specs.Lists.{all, any, range}
+use Rattle.lists.proofs.Maps.{map_any}
+use Rattle.network.specs.Rows.{Fitting}
+use Rattle.network.proofs.Rows.{RowAt}
+use Rattle.network_file.specs.File.{Sizes, byte_at, file_checks, network_of, row_in, row_start, sizes_of}
+use Rattle.network_file.proofs.Accepted.{accepted}
 use Rattle.surveys.specs.Surveys.{has_pair, is_pair}
 
-module _ (u v : ℕ) (w : Network) {r : ℕ} (so_far : has_pair u v w.rows ≡ has_pair u v (drop r w.rows)) where
-  pub pair_next : r < length w.rows → is_pair u v (row_at w r) ≡ false → has_pair u v w.rows ≡ has_pair u v (drop (r + 1) w.rows)
-  unfolding has_pair
-  pair_next h e = so_far ∙ any_next (is_pair u v) w.rows no_row r h e
+pub fitting : (f : List ℕ) (s : Sizes) → first_unmet (file_checks f) ≡ none → s ≡ sizes_of f → Fitting f s
+fitting f s met same = record { same = same; long = (accepted f met).long ∙ ap (λ (z : Sizes). row_start f z.m) (sym same) }
 
-  pub pair_stop : r < length w.rows → is_pair u v (row_at w r) ≡ true → true ≡ has_pair u v w.rows
-  unfolding has_pair
-  pair_stop h e = sym (so_far ∙ any_stop (is_pair u v) w.rows no_row r h e)
+any_not_all : {A : Type 0} (p : A → Bool) (l : List A) → not (all (λ a. not (p a)) l) ≡ any p l
+unfolding all any
+any_not_all p [] = refl
+any_not_all p (a ∷ l) = one (p a) (any_not_all p l)
+  where
+    one : (b : Bool) → not (all (λ x. not (p x)) l) ≡ any p l → not (not b && all (λ x. not (p x)) l) ≡ (b || any p l)
+    one true rest = refl
+    one false rest = rest
 
-  pub pair_end : length w.rows ≤ r → false ≡ has_pair u v w.rows
-  unfolding has_pair
-  pair_end h = sym (so_far ∙ any_end (is_pair u v) w.rows no_row r h)
+module _ (u v : ℕ) (f : List ℕ) where
+  -- what is asked of row r
+  abbrev pub joins : ℕ → Bool
+  joins r = is_pair u v (row_in f r)
+
+  pub pair_read : (r : ℕ) (row : List ℕ) → RowAt f r row
+      → ((eqb (byte_at row 0) u && eqb (byte_at row 1) v) || (eqb (byte_at row 0) v && eqb (byte_at row 1) u)) ≡ joins r
+  unfolding row_in
+  pair_read r row at =
+      let first : byte_at row 0 ≡ byte_at f (row_start f r) = at.reads 0 (omega arith) ∙ ap (byte_at f) (omega arith) in
+      rw (first, at.reads 1 (omega arith))
+
+  pub pair_pieces : (s : Sizes) → s ≡ sizes_of f → not (all (λ r. not (joins r)) (range 0 s.m)) ≡ has_pair u v (network_of f).rows
+  unfolding has_pair network_of
+  pair_pieces s same =
+      ap (λ (z : Sizes). not (all (λ r. not (joins r)) (range 0 z.m))) same
+      ∙ any_not_all joins (range 0 (sizes_of f).m)
+      ∙ map_any (row_in f) (is_pair u v) (range 0 (sizes_of f).m)

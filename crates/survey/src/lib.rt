@@ -9,6 +9,7 @@ ghost use Rattle.checks.specs.Checks.{first_unmet};
 ghost use Rattle.costs.specs.Network.{row_at};
 ghost use Rattle.fields.specs.Fields.{sizes_in, state_in};
 ghost use Rattle.frames.specs.Frame.{Framing};
+ghost use Rattle.network.specs.Rows.{Fitting};
 ghost use Rattle.network_file.specs.Bytes.{bytes_of_row, state_number, u32_bytes};
 ghost use Rattle.network_file.specs.File.{file_checks, network_of, sizes_of};
 ghost use Rattle.printout.specs.Text.{filled, put};
@@ -19,12 +20,12 @@ ghost use Rattle.survey.specs.Head.{head_bytes};
 use fields::{Header, State};
 use refusals::{Refusal, check};
 
-// One of the two surveys: its file, with the sizes that it says.
+// One of the two surveys: its file, as long as the sizes say, with these.
 #[derive(Clone, Copy, Debug)]
 struct Surveyed<'a> {
     file: &'a [u8],
     header: Header,
-    ghost sized: { sizes_in header ≡ sizes_of file.now },
+    ghost fitting: { Fitting file.now (sizes_in header) },
 }
 
 // Whether a row with these ends joins u and v, either way round.
@@ -57,13 +58,10 @@ impl Surveyed<'_> {
     fn has_pair(&self, u: u8, v: u8) -> bool
         ensures { result ≡ has_pair u v (network_of self.now.file.now).rows }
     {
-        for r in 0..self.header.m as usize {
-            let row = fields::row_at(self.file, r);
-            if is_pair(u, v, row.first, row.second) {
-                return true;
-            }
-        }
-        false
+        let rows = &self.file[9 + self.header.k as usize..];
+        !rows
+            .chunks_exact(fields::row_bytes(self.file))
+            .all(|row| !is_pair(u, v, row[0], row[1]))
     }
 
     // Whether a row stands under a newer survey: no row of the newer joins its ends.

@@ -20,7 +20,7 @@ const STDIN_FILENO: i32 = 0;
 // The descriptor of the standard output.
 const STDOUT_FILENO: i32 = 1;
 
-// The lines stand one behind the other in a buffer, up to a place; it is written where the next may not fit, and at the end.
+// The lines stand one behind the other in a buffer, up to a place; it is written where the next may not fit, behind the list and at the end.
 #[derive(Drop)]
 struct Printout {
     buffer: [u8; 65536],
@@ -188,6 +188,8 @@ fn print_network(out: &mut Printout, file: &[u8], h: Header)
 {
     out.sizes(h);
     let trees = print_trees(out, file, h);
+    // The front may take long: the list is written before it is begun.
+    out.flush();
     print_front(out, file, h, trees);
 }
 

@@ -1,4 +1,5 @@
--- A weight stored is `put` (`matrix_set`), and `add_to` by its test, as the code makes it (`kept_first`, `kept_second`, `here`), and what it leaves: the links with one added (`added`).
+-- A weight stored is `put` (`matrix_set`), and `add_to` by its test, as the code makes it (`kept_first`, `kept_second`, `here`), among enough weights (`few_kept`,
+-- `many_added`), and what it leaves: the links with one added (`added`).
 use mathlib.Core.Path.{◌∙◌, ◌≡◌, ap, sym}
 use mathlib.Core.Logic.{inl, inr}
 use mathlib.Core.List.{List}
@@ -8,14 +9,14 @@ use native.Mathlib.Omega.{arith}
 use lib.Dec.{ltb, ltb→lt}
 use lib.ListN.{get_or-replicate, length, replicate, set}
 use lib.Seq.{get_or-set_other, get_or-set_same}
-use borrow.Author.Tests.{le-ltb, lt-ltb}
+use borrow.Author.Tests.{le-leb, le-ltb, lt-leb, lt-ltb}
 use Rattle.lists.proofs.Tests.{T_false, T_true, decide, not_ltb→le}
 use Rattle.counts.specs.Counting as counting
 use Rattle.counts.specs.Counting.{beside}
 use Rattle.counts.specs.Matrix.{Agree, add_held, held, limit, put}
 use Rattle.counts.specs.States.{empty}
 use Rattle.counts.proofs.Matrix.{put_column, put_row, put_same}
-use Rattle.weights.specs.Weights.{add_to, matrix_in, place_of_pair, weight_at, weight_in}
+use Rattle.weights.specs.Weights.{add_to, added_to, matrix_in, place_of_pair, weight_at, weight_in}
 use Rattle.weights.specs.declared.Weight.{Weight}
 
 -- A STORE
@@ -48,6 +49,16 @@ module _ (ws : List Weight) (x y : ℕ) (p : counting.Weight) where
       → weight_in q ≡ held limit (beside (weight_in (weight_at ws at)) p) → set ws at q ≡ add_to ws x y p
   unfolding add_to
   here at q i j o e = ap (λ (u : counting.Weight). set ws at (record { dropped = u.dropped; merged = u.merged })) e ∙ simp (lt-ltb x 32 i, lt-ltb y 32 j, o)
+
+-- among fewer than 1,024 weights nothing is added, among as many or more a link is
+module _ (ws : List Weight) (x y : ℕ) (p : counting.Weight) where
+  pub few_kept : length ws < 1024 → ws ≡ added_to ws x y p
+  unfolding added_to
+  few_kept few = simp (lt-leb 1024 (length ws) few)
+
+  pub many_added : 1024 ≤ length ws → add_to ws x y p ≡ added_to ws x y p
+  unfolding added_to
+  many_added many = simp (le-leb 1024 (length ws) many)
 
 module _ (ws : List Weight) (long : 1024 ≤ length ws) where
   -- the link's row and column are known

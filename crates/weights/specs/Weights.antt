@@ -1,5 +1,5 @@
 -- What a weight by value stands for, the matrix that links by value hold, and what a link added leaves: the 1,024 places are those of 32 × 32 pairs of nodes.
-use Rattle.std.specs.Prelude.{◌&&◌, List, ◌*◌, ◌+◌, ℕ, ltb, get_or, set}
+use Rattle.std.specs.Prelude.{◌&&◌, List, ◌*◌, ◌+◌, ℕ, leb, ltb, get_or, length, set}
 use Rattle.lists.specs.Lists.{pick}
 use Rattle.counts.specs.Counting as counting
 use Rattle.counts.specs.Matrix.{Matrix, held, limit}
@@ -29,3 +29,8 @@ beside_at ws at p =
 -- a link between two of 32 nodes added; with other nodes the weights stay as they were
 unfoldable pub add_to : List Weight → ℕ → ℕ → counting.Weight → List Weight
 add_to ws x y p = pick (ltb x 32 && ltb y 32) (beside_at ws (place_of_pair x y) p) ws
+
+-- the same in weights of any number: of fewer than 1,024 there is no link to add to
+unfoldable pub added_to : List Weight → ℕ → ℕ → counting.Weight → List Weight
+unfolding add_to
+added_to ws x y p = pick (leb 1024 (length ws)) (add_to ws x y p) ws

@@ -6,7 +6,7 @@ ghost use Rattle.std.specs.Prelude.{◌≡◌, ◌*◌, ◌+◌, ◌<◌, min, r
 ghost use Rattle.counts.specs.Counting.{behind, beside};
 ghost use Rattle.counts.specs.Matrix.{Agree, add_held, held, limit};
 ghost use Rattle.counts.specs.States.{empty};
-ghost use Rattle.weights.specs.Weights.{add_to, matrix_in, place_of_pair, weight_in};
+ghost use Rattle.weights.specs.Weights.{add_to, added_to, matrix_in, place_of_pair, weight_in};
 
 /// Where every number is held: one more than the greatest count that is answered.
 pub const LIMIT: u32 = 4_000_000_001;
@@ -96,9 +96,16 @@ impl Links {
         ensures stored { self.new.weights ≡ add_to self.old.weights x y (weight_in weight) }
         ensures added { x < 32 → y < 32 → ¬ (x ≡ y) → Agree (matrix_in self.new.weights) (add_held limit (matrix_in self.old.weights) x y (weight_in weight)) 32 }
     {
-        if x < 32 && y < 32 {
-            let at = place(x, y);
-            self.weights[at] = self.weights[at].beside(weight);
-        }
+        add(&mut self.weights, x, y, weight);
+    }
+}
+
+/// One more link between two of 32 nodes, beside what joins them already, in weights of any number. Places behind the first 1,024 stay as they are, and so do fewer than these.
+pub fn add(weights: &mut [Weight], x: usize, y: usize, weight: Weight)
+    ensures { weights.new ≡ added_to weights.old x y (weight_in weight) }
+{
+    if 1024 <= weights.len() && x < 32 && y < 32 {
+        let at = place(x, y);
+        weights[at] = weights[at].beside(weight);
     }
 }

@@ -1,12 +1,16 @@
--- What fits is copied into its part of the buffer, and where nothing fits the buffer stays as it is.
-use Rattle.std.proofs.Common.{arith}
-use Rattle.printout.proofs.Laws.{copied_put, none_put}
+-- The loop ends behind the last byte, or where the buffer does; all that fit stand there then.
+use Rattle.std.proofs.Common.{arith, refl}
+use Rattle.printout.proofs.Laws.{all_put, putting_more, putting_start}
 use Rattle.printout.proofs.text.Goals as goal
-use Rattle.printout.proofs.text.Goals.{then-n-gt0, else-n-gt0}
 
-pub returns : goal.returns
-returns c =
-    elim c.if-n-gt0.branch [
-      | then-n-gt0 w ↦ copied_put _ _ _ (omega arith) (omega arith) w.copy_from_slice.ensures.after w.out-is
-      | else-n-gt0 w ↦ none_put _ _ _ (omega arith) w.if-n-gt0.false w.out-is
-    ]
+pub loop-byte-init : goal.loop-byte-init
+loop-byte-init c = putting_start
+
+pub loop-byte-preserved : goal.loop-byte-preserved
+loop-byte-preserved c = putting_more c.loop-byte.invariant _ (omega arith) refl
+
+pub returns-then-place-out : goal.returns-then-place-out
+returns-then-place-out c = all_put c.loop-byte.invariant (omega arith)
+
+pub returns-after-loop-byte : goal.returns-after-loop-byte
+returns-after-loop-byte c = all_put c.loop-byte.invariant (omega arith)

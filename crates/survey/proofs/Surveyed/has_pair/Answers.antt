@@ -1,26 +1,19 @@
-use Rattle.std.proofs.Common.{◌∙◌, ◌≡◌, ap, arith, sym}
-use Rattle.costs.specs.Network.{row_at}
-use Rattle.network_file.specs.File.{network_of}
-use Rattle.surveys.specs.Surveys.{is_pair}
-use Rattle.survey.proofs.Pairs.{pair_end, pair_next, pair_stop}
-use Rattle.survey.proofs.Putting.{row_there, rows_few}
+-- Each row is a piece of the file and is asked where it lies (`pair_read`); some row joins u and v if not all of them don't (`pair_pieces`).
+use mathlib.Core.Path.{◌∙◌, ◌≡◌, ap, sym}
+use mathlib.Core.Bool.{◌&&◌, ◌||◌, not}
+use lib.Dec.{eqb}
+use borrow.Author.Rules.{rules}
+use Rattle.network.proofs.Rows.{row_run}
+use Rattle.network_file.specs.File.{byte_at}
+use Rattle.survey.proofs.Pairs.{joins, pair_pieces, pair_read}
 use Rattle.survey.proofs.Surveyed.has_pair.Goals as goal
-use Rattle.survey.proofs.Surveyed.has_pair.Goals.{After-is_pair}
-
--- what the code asks of a row
-asked : (c : After-is_pair) → is_pair c.args.u c.args.v (row_at (network_of c.args.self.now.file.now) c.loop-r.r) ≡ c.is_pair.result
-asked c = ap (is_pair c.args.u c.args.v) (sym c.row_at-row.ensures) ∙ sym c.is_pair.ensures
-
-pub returns-then-is_pair : goal.returns-then-is_pair
-returns-then-is_pair c =
-    pair_stop _ _ (network_of c.args.self.now.file.now) c.loop-r.invariant (row_there _ _ c.args.self.now.sized _ c.loop-r-test.true)
-    (asked (goal.at.returns-then-is_pair c).After-is_pair ∙ c.if-is_pair.true)
-
-pub loop-r-preserved : goal.loop-r-preserved
-loop-r-preserved c =
-    pair_next _ _ (network_of c.args.self.now.file.now) c.loop-r.invariant (row_there _ _ c.args.self.now.sized _ c.loop-r-test.true)
-    (asked (goal.at.loop-r-preserved c).After-is_pair ∙ c.if-is_pair.false)
 
 pub returns : goal.returns
 returns c =
-    pair_end _ _ (network_of c.args.self.now.file.now) c.loop-r.invariant (omega (arith, c.loop-r-test.false, rows_few _ _ c.args.self.now.sized))
+    let (p, from, outcome) = c.all.ensures.runs in
+    let lacks = row_run p _ _ (search rules) c.args.self.now.fitting (λ r. not (joins c.args.u c.args.v c.args.self.now.file.now r)) (search (rules, from)) (search (rules, from))
+    (c.chunks_exact.ensures.runs p p.seen)
+    (λ r x row b called.
+    let asked : b ≡ not ((eqb (byte_at x.now 0) c.args.u && eqb (byte_at x.now 1) c.args.v) || (eqb (byte_at x.now 0) c.args.v && eqb (byte_at x.now 1) c.args.u)) = search (rules, called) in
+    asked ∙ ap not (pair_read _ _ _ r x.now row)) c.all.result outcome in
+    ap not lacks ∙ pair_pieces _ _ _ _ c.args.self.now.fitting.same

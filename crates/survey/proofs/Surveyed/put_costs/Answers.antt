@@ -9,10 +9,10 @@ loop-c-init c = laid_start refl
 
 pub loop-c-preserved : goal.loop-c-preserved
 loop-c-preserved c =
-    let wide = row_wide _ _ c.args.self.now.sized _ c.requires in
+    let wide = row_wide _ _ c.args.self.now.fitting.same _ c.requires in
     laid_turn c.loop-c.invariant c.loop-c-test.true _ (first_read _ _ 0 (omega (arith, wide)) c.cost_at.ensures) c.put_u32-at.auto.buffer c.put_u32-at.ensures
 
 pub returns : goal.returns
 returns c =
-    let wide = row_wide _ _ c.args.self.now.sized _ c.requires in
+    let wide = row_wide _ _ c.args.self.now.fitting.same _ c.requires in
     laid_end c.loop-c.invariant c.loop-c-test.false (take_all _ _ (omega (arith, wide)))

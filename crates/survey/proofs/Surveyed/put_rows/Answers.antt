@@ -11,8 +11,8 @@ loop-r-init c = laid_start refl
 pub loop-r-preserved : goal.loop-r-preserved
 loop-r-preserved c =
     let more = c.loop-r-test.true in
-    let there = row_there _ _ c.args.self.now.sized _ more in
+    let there = row_there _ _ c.args.self.now.fitting.same _ more in
     laid_turn c.loop-r.invariant more _ (first_read _ _ no_row there refl) c.put_row-at.auto.buffer c.put_row-at.ensures
 
 pub returns : goal.returns
-returns c = laid_end c.loop-r.invariant c.loop-r-test.false (take_all _ _ (rows_few _ _ c.args.self.now.sized))
+returns c = laid_end c.loop-r.invariant c.loop-r-test.false (take_all _ _ (rows_few _ _ c.args.self.now.fitting.same))

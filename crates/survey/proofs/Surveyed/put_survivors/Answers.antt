@@ -13,7 +13,7 @@ loop-r-init c = laid_start (standing_none (network_of c.args.self.now.file.now).
 pub loop-r-preserved : goal.loop-r-preserved
 loop-r-preserved c =
     let more = c.loop-r-test.true in
-    let there = row_there _ _ c.args.self.now.sized _ more in
+    let there = row_there _ _ c.args.self.now.fitting.same _ more in
     let says = sym c.stands.ensures in
     elim c.if-stands.branch [
       | then-stands w ↦
@@ -23,4 +23,4 @@ loop-r-preserved c =
     ]
 
 pub returns : goal.returns
-returns c = laid_end c.loop-r.invariant c.loop-r-test.false (standing_all _ _ _ (rows_few _ _ c.args.self.now.sized))
+returns c = laid_end c.loop-r.invariant c.loop-r-test.false (standing_all _ _ _ (rows_few _ _ c.args.self.now.fitting.same))
