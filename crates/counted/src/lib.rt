@@ -55,7 +55,8 @@ fn must_link(links: &Links, v: usize) -> Option<usize>
         .position(|link| link.dropped == 0)
 }
 
-// The links of the first v + 1 nodes, copied to the level below.
+// The links of the first v + 1 nodes, copied to the level below. On its own: in the counting it takes places that the counting needs.
+#[inline(never)]
 fn copied(links: &Links, next: &mut Links, v: usize)
     requires { v < 32 }
     ensures { Agree (matrix_in next.new.weights) (matrix_in links.now.weights) (suc v) }

@@ -89,8 +89,19 @@ module _ {out : List ℕ} {at : ℕ} {bytes : List ℕ} where
     pasted = rw (p.there, p.pasted, read, add-one) (paste-suc out at bytes i 0 (omega arith) (omega arith));
   }
 
+  pub putting_at : {new : List ℕ} {place here i : ℕ} → Putting out at bytes new place i → here ≡ place → Putting out at bytes new here i
+  putting_at p e = record { few = p.few; there = e ∙ p.there; pasted = p.pasted }
+
   pub all_put : {new : List ℕ} {place i : ℕ} → Putting out at bytes new place i → fitting out at bytes ≤ i → filled new place ≡ put out at bytes
   unfolding put
   all_put {new} {place} {i} p all =
       let end : i ≡ fitting out at bytes = omega (arith, p.few) in
       rw (p.there, p.pasted, end)
+
+-- where all bytes fit they are put whole
+pub whole_put : (out : List ℕ) (at : ℕ) (bytes : List ℕ) {new : List ℕ} → at + length bytes ≤ length out → new ≡ paste out at bytes (length bytes)
+    → filled new (at + length bytes) ≡ put out at bytes
+unfolding put
+whole_put out at bytes fits is =
+    let whole : fitting out at bytes ≡ length bytes = omega arith in
+    rw (is, whole)

@@ -2,7 +2,8 @@
 //! The longest line of the printout has under 250 bytes: a tree of 31 rows with four costs.
 #![tactic(auto)]
 
-ghost use Rattle.std.specs.Prelude.{◌≡◌, ◌∷◌, [], ℕ, map, take};
+ghost use Rattle.std.specs.Prelude.{◌≡◌, ◌∷◌, [], ◌+◌, ◌≤◌, ℕ, length, map, take};
+ghost use Rattle.std.proofs.Math.Seq.{paste};
 ghost use Rattle.printout.specs.Text.{decimal_of, filled, numbers_of, put};
 
 // The buffer and the place are two arguments, and no struct that holds both. Tried: the proof of a caller doesn't close, since a method that is lent the struct
@@ -33,11 +34,21 @@ impl AsNumber for u32 {
     }
 }
 
-/// Puts these bytes into the buffer, as far as they fit; answers the place behind.
-pub fn text(out: &mut [u8], at: usize, bytes: &[u8]) -> usize
+// Puts these bytes into the buffer, where all of them fit.
+fn put_all(out: &mut [u8], at: usize, bytes: &[u8])
+    requires { at + length bytes.now ≤ length out.old }
+    ensures { out.new ≡ paste out.old at bytes.now (length bytes.now) }
+{
+    // By elements: a copy of the whole part would ask memmove of a C program that links the library.
+    for i in 0..bytes.len() {
+        out[at + i] = bytes[i];
+    }
+}
+
+// Puts these bytes into the buffer, as far as they fit; answers the place behind.
+fn put_some(out: &mut [u8], at: usize, bytes: &[u8]) -> usize
     ensures { filled out.new result ≡ put out.old at bytes.now }
 {
-    // By elements: a copy of the whole part would ask memmove of a C program that links the library, and be a call for each space and number.
     let mut place = at;
     for byte in bytes {
         if place >= out.len() {
@@ -47,6 +58,17 @@ pub fn text(out: &mut [u8], at: usize, bytes: &[u8]) -> usize
         place += 1;
     }
     place
+}
+
+/// Puts these bytes into the buffer, as far as they fit; answers the place behind.
+pub fn text(out: &mut [u8], at: usize, bytes: &[u8]) -> usize
+    ensures { filled out.new result ≡ put out.old at bytes.now }
+{
+    if bytes.len() <= out.len() && at <= out.len() - bytes.len() {
+        put_all(out, at, bytes);
+        return at + bytes.len();
+    }
+    put_some(out, at, bytes)
 }
 
 /// A line feed.

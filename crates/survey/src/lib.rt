@@ -66,10 +66,11 @@ impl Surveyed<'_> {
 
     // Whether a row stands under a newer survey: no row of the newer joins its ends.
     fn stands(&self, row: usize, newer: &Surveyed<'_>) -> bool
+        requires { row < self.now.header.m }
         ensures { result ≡ stands (network_of newer.now.file.now).rows (row_at (network_of self.now.file.now) row) }
     {
-        let ends = fields::row_at(self.file, row);
-        !newer.has_pair(ends.first, ends.second)
+        let at = 9 + self.header.k as usize + row * fields::row_bytes(self.file);
+        !newer.has_pair(self.file[at], self.file[at + 1])
     }
 
     // How many rows stand under a newer survey.
