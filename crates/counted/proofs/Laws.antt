@@ -177,13 +177,27 @@ module _ (ws : List code.Weight) (v «from» : ℕ) (r : Option ℕ) (l : «from
       none_merged _ (sym (test k (k - «from») u (omega arith))
       ∙ position_none (λ (w : code.Weight). not (w.merged == 0)) part (sym found ∙ e) (k - «from») (record { dropped = 0; merged = 0 }) (omega (arith, part_long)))
 
--- A level copied place by place: the first i places are those of ws
-module _ (ws us : List code.Weight) (i : ℕ) (so : (k : ℕ) → k < i → weight_at us k ≡ weight_at ws k) where
-  pub one_copied : i < length us → (k : ℕ) → k < i + 1 → weight_at (set us i (weight_at ws i)) k ≡ weight_at ws k
-  one_copied h = below_more _ i (λ k l. get_or-set_other us i k _ _ (λ e. omega arith) ∙ so k l) (get_or-set_same us i _ _ h)
+-- A node's links copied one by one, to places from a * 32 on: those before are as they were
+pub record RowCopied (ws xs us : List code.Weight) (a i : ℕ) : Type 0 where
+  pub row : (b : ℕ) → b < i → weight_at us (a * 32 + b) ≡ weight_at ws (a * 32 + b)
+  pub before : (k : ℕ) → k < a * 32 → weight_at us k ≡ weight_at xs k
 
-  pub all_copied : (v : ℕ) → v < 32 → (v + 1) * 32 ≤ i → Agree (matrix_in us) (matrix_in ws) (suc v)
-  all_copied v h l a b p q = ap weight_in (so (a * 32 + b) (omega arith))
+pub none_copied : (ws xs : List code.Weight) (a : ℕ) → RowCopied ws xs xs a 0
+none_copied ws xs a = record { row = λ b h. absurd (omega arith); before = λ k h. refl }
+
+pub one_copied : {ws xs us : List code.Weight} {a i : ℕ} → RowCopied ws xs us a i → a * 32 + i < length us → RowCopied ws xs (set us (a * 32 + i) (weight_at ws (a * 32 + i))) a (i + 1)
+one_copied {ws} {xs} {us} {a} {i} p h = record {
+  row = below_more _ i (λ k l. get_or-set_other us (a * 32 + i) (a * 32 + k) _ _ (λ e. omega arith) ∙ p.row k l) (get_or-set_same us (a * 32 + i) _ _ h);
+  before = λ k l. get_or-set_other us (a * 32 + i) k _ _ (λ e. omega arith) ∙ p.before k l;
+}
+
+-- A level copied node by node: one more node's links
+pub rows_copied : (ws xs us : List code.Weight) (a : ℕ) → Agree (matrix_in xs) (matrix_in ws) a → ((b : ℕ) → b < a → weight_at us (a * 32 + b) ≡ weight_at ws (a * 32 + b))
+    → ((k : ℕ) → k < a * 32 → weight_at us k ≡ weight_at xs k) → a < 32 → Agree (matrix_in us) (matrix_in ws) (suc a)
+rows_copied ws xs us a so row before h i j l n = elim (ℕ_discrete i a) [
+  | yes e ↦ ap weight_in (ap (λ (m : ℕ). weight_at us (m * 32 + j)) e ∙ row j (omega arith) ∙ sym (ap (λ (m : ℕ). weight_at ws (m * 32 + j)) e))
+  | no d ↦ ap weight_in (before (i * 32 + j) (omega arith)) ∙ so i j l (omega arith)
+]
 
 -- A link made absent
 pub absent_set : (ws : List code.Weight) (v x : ℕ) → 1024 ≤ length ws → x < v → v < 32

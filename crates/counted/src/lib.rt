@@ -4,11 +4,11 @@
 //! The links and their last node are passed side by side: the node falls with each call and the links stay, so a struct of both would be made anew at each.
 #![tactic(auto)]
 
-ghost use Rattle.std.specs.Prelude.{◌≡◌, ◌<◌, ◌≤◌, min, suc, length, IfSome, MatchOption, not, ◌==◌};
+ghost use Rattle.std.specs.Prelude.{◌≡◌, ◌*◌, ◌+◌, ◌<◌, ◌≤◌, ℕ, min, suc, length, IfSome, MatchOption, not, ◌==◌};
 ghost use Rattle.std.specs.List.{position};
 ghost use Rattle.counts.specs.Counting.{behind};
 ghost use Rattle.counts.specs.Matrix.{Agree, add_held, held, held_total, limit, move_held};
-ghost use Rattle.weights.specs.Weights.{matrix_in};
+ghost use Rattle.weights.specs.Weights.{matrix_in, weight_at};
 ghost use Rattle.counted.specs.Counted.{Clear, Clearing, FirstLink, NoLink};
 
 use weights::{LIMIT, Links, Weight};
@@ -55,16 +55,26 @@ fn must_link(links: &Links, v: usize) -> Option<usize>
         .position(|link| link.dropped == 0)
 }
 
-// The links of the first v + 1 nodes, copied to the level below. On its own: in the counting it takes places that the counting needs.
+// Node a's links to the nodes below it, copied to the level below.
+fn row_copied(links: &Links, next: &mut Links, a: usize)
+    requires { a < 32 }
+    ensures row { (b : ℕ) → b < a → weight_at next.new.weights (a * 32 + b) ≡ weight_at links.now.weights (a * 32 + b) }
+    ensures before { (i : ℕ) → i < a * 32 → weight_at next.new.weights i ≡ weight_at next.old.weights i }
+{
+    // By elements: a copy of the whole part would ask memmove of a C program that links the library.
+    for b in 0..a {
+        next.weights[a * 32 + b] = links.weights[a * 32 + b];
+    }
+}
+
+// The links of the first v + 1 nodes, copied to the level below. Not inlined: within the counting its loop takes registers that the counting needs.
 #[inline(never)]
 fn copied(links: &Links, next: &mut Links, v: usize)
     requires { v < 32 }
     ensures { Agree (matrix_in next.new.weights) (matrix_in links.now.weights) (suc v) }
 {
-    let n = (v + 1) * 32;
-    // By elements: a copy of the whole part would ask memmove of a C program that links the library.
-    for i in 0..n {
-        next.weights[i] = links.weights[i];
+    for a in 0..v + 1 {
+        row_copied(links, next, a);
     }
 }
 

@@ -1,7 +1,7 @@
--- The loop's invariant: the first i places are copied.
-use Rattle.std.specs.Prelude.{◌≡◌, ◌<◌, ℕ}
-use Rattle.weights.specs.Weights.{weight_at}
+-- The loop's invariant: the links of the nodes below a are copied.
+use Rattle.counts.specs.Matrix.{Agree}
+use Rattle.weights.specs.Weights.{matrix_in}
 use Rattle.counted.proofs.copied.Given as goal
 
-abbrev pub invariant-loop-i : goal.invariant-loop-i
-invariant-loop-i l = (k : ℕ) → k < l.i → weight_at l.next.weights k ≡ weight_at l.links.weights k
+abbrev pub invariant-loop-a : goal.invariant-loop-a
+invariant-loop-a l = Agree (matrix_in l.next.weights) (matrix_in l.links.weights) l.a
