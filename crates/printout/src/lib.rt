@@ -64,6 +64,7 @@ fn put_some(out: &mut [u8], at: usize, bytes: &[u8]) -> usize
 pub fn text(out: &mut [u8], at: usize, bytes: &[u8]) -> usize
     ensures { filled out.new result ≡ put out.old at bytes.now }
 {
+    // A piece that fits goes by its own length, which the compiler writes out where it knows that, as of a space.
     if bytes.len() <= out.len() && at <= out.len() - bytes.len() {
         put_all(out, at, bytes);
         return at + bytes.len();

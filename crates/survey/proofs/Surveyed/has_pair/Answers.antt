@@ -1,5 +1,5 @@
 -- Each row is a piece of the file and is asked where it lies (`pair_read`); some row joins u and v if not all of them don't (`pair_pieces`).
-use mathlib.Core.Path.{◌∙◌, ◌≡◌, ap, sym}
+use mathlib.Core.Path.{◌∙◌, ◌≡◌, ap}
 use mathlib.Core.Bool.{◌&&◌, ◌||◌, not}
 use lib.Dec.{eqb}
 use borrow.Author.Rules.{rules}
